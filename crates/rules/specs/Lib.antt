@@ -13,3 +13,4 @@ pub mod Validation
 pub mod Jobs
 pub mod Finish
 pub mod Calls
+pub mod Figures
