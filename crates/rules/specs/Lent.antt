@@ -110,7 +110,7 @@ sourcesUsed j = total (rowsFrom (sourceCount j) 0 (j .count))
 -- the numbers `new` at the front of a slice of which `used` numbers were in use: "Places that a call frees hold zeros;
 -- other unused places keep their bytes."
 unfoldable pub laid : ℕ → List ℕ → List ℕ → List ℕ
-laid used new s = new ++ replicate (used - length new) 0 ++ drop (max used (length new)) s
+laid used new s = new ++ (replicate (used - length new) 0 ++ drop (max used (length new)) s)
 
 abbrev pub ulidWords : Ulid → List ℕ
 ulidWords u = u .high ∷ u .low ∷ []

@@ -1,0 +1,2 @@
+-- Laws of the definitions, each once, for every crate above.
+pub mod Rows

@@ -1,0 +1,71 @@
+-- Rows read one after another (`rowsFrom`), and rows laid one after another (`concatMap`): what is laid reads back.
+use Prim.Native.Nat.{ℕ, zero, suc, _+_, _*_, _<_, suc-le-suc}
+use mathlib.Core.Path.{_≡_, refl, sym, ap, ap₂, _∙_}
+use mathlib.Core.List.{List, [], _∷_, _++_, map, append-assoc}
+use native.Mathlib.Nat.{le-of-suc-le-suc, not-suc-le-zero, zero-add, add-zero, suc-add, mul-zero, mul-suc, zero-lt-suc}
+use native.Mathlib.Omega.{arith}
+use lib.ListN.{length, getD, length-append, List·getD-append}
+use lib.Seq.{getD-append-add}
+use Rattle.rules.specs.Lists.{concatMap, total}
+use Rattle.rules.specs.Lent.{rowsFrom}
+
+-- ---- reading
+
+module _ {ℓ} {A : Type ℓ} where
+  -- as many rows as were asked for
+  pub length-rowsFrom : (f : ℕ → A) (i n : ℕ) → length (rowsFrom f i n) ≡ n
+  unfolding rowsFrom
+  length-rowsFrom f i zero = refl
+  length-rowsFrom f i (suc n) = ap suc (length-rowsFrom f (i + 1) n)
+
+  -- row k of them
+  pub getD-rowsFrom : (f : ℕ → A) (i n k : ℕ) (d : A) → k < n → getD (rowsFrom f i n) k d ≡ f (i + k)
+  unfolding rowsFrom
+  getD-rowsFrom f i zero k d h = absurd (not-suc-le-zero h)
+  getD-rowsFrom f i (suc n) zero d h = sym (ap f (add-zero i))
+  getD-rowsFrom f i (suc n) (suc k) d h = getD-rowsFrom f (i + 1) n k d (le-of-suc-le-suc h) ∙ ap f (omega arith)
+
+  -- some rows, and the rows after them
+  pub rowsFrom-append : (f : ℕ → A) (i m n : ℕ) → rowsFrom f i (m + n) ≡ rowsFrom f i m ++ rowsFrom f (i + m) n
+  unfolding rowsFrom
+  rowsFrom-append f i zero n = rw (zero-add, add-zero)
+  rowsFrom-append f i (suc m) n =
+      rw suc-add (ap (λ (l : List A). f i ∷ l) (rowsFrom-append f (i + 1) m n ∙ ap (λ (j : ℕ). rowsFrom f (i + 1) m ++ rowsFrom f j n) (omega arith)))
+
+  -- two readers that agree wherever they read
+  pub rowsFrom-same : (f g : ℕ → A) (i j n : ℕ) → ((k : ℕ) → k < n → f (i + k) ≡ g (j + k)) → rowsFrom f i n ≡ rowsFrom g j n
+  unfolding rowsFrom
+  rowsFrom-same f g i j zero h = refl
+  rowsFrom-same f g i j (suc n) h =
+      ap₂ _∷_ (rw (add-zero, add-zero) at (h 0 (zero-lt-suc n)))
+      (rowsFrom-same f g (i + 1) (j + 1) n (λ k l. ap f (omega arith) ∙ h (suc k) (suc-le-suc l) ∙ ap g (omega arith)))
+
+  -- a reader that finds these rows
+  pub rows-are : (f : ℕ → A) (d : A) (i : ℕ) (xs : List A) → ((k : ℕ) → k < length xs → f (i + k) ≡ getD xs k d) → rowsFrom f i (length xs) ≡ xs
+  unfolding rowsFrom
+  rows-are f d i [] h = refl
+  rows-are f d i (x ∷ xs) h =
+      ap₂ _∷_ (rw add-zero at (h 0 (zero-lt-suc (length xs))))
+      (rows-are f d (i + 1) xs (λ k l. ap f (omega arith) ∙ h (suc k) (suc-le-suc l)))
+
+-- ---- laying: rows of w numbers
+
+module _ {A : Type 0} (words : A → List ℕ) (w : ℕ) (width : (a : A) → length (words a) ≡ w) where
+  pub length-words : (xs : List A) → length (concatMap words xs) ≡ w * length xs
+  unfolding concatMap
+  length-words [] = sym (mul-zero w)
+  length-words (x ∷ xs) = omega (arith, length-append (words x) (concatMap words xs), width x, length-words xs, mul-suc w (length xs))
+
+  -- number k of row i
+  pub number-at : (xs : List A) (rest : List ℕ) (d : A) (i k : ℕ) → i < length xs → k < w → getD (concatMap words xs ++ rest) (w * i + k) 0 ≡ getD (words (getD xs i d)) k 0
+  unfolding concatMap
+  number-at [] rest d i k h l = absurd (not-suc-le-zero h)
+  number-at (x ∷ xs) rest d zero k h l =
+      rw append-assoc
+      (ap (λ (n : ℕ). getD (words x ++ (concatMap words xs ++ rest)) n 0) (omega arith)
+      ∙ List·getD-append (words x) (concatMap words xs ++ rest) 0 k (omega (arith, width x)))
+  number-at (x ∷ xs) rest d (suc i) k h l =
+      rw append-assoc
+      (ap (λ (n : ℕ). getD (words x ++ (concatMap words xs ++ rest)) n 0) (omega (arith, width x, mul-suc w i))
+      ∙ getD-append-add (words x) (concatMap words xs ++ rest) (w * i + k) 0
+      ∙ number-at xs rest d i k (le-of-suc-le-suc h) l)
