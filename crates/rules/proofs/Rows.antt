@@ -1,11 +1,11 @@
 -- Rows read one after another (`rowsFrom`), and rows laid one after another (`concatMap`): what is laid reads back.
-use Prim.Native.Nat.{ℕ, zero, suc, _+_, _*_, _<_, suc-le-suc}
+use Prim.Native.Nat.{ℕ, zero, suc, _+_, _*_, _≤_, _<_, suc-le-suc}
 use mathlib.Core.Path.{_≡_, refl, sym, ap, ap₂, _∙_}
 use mathlib.Core.List.{List, [], _∷_, _++_, map, append-assoc}
-use native.Mathlib.Nat.{le-of-suc-le-suc, not-suc-le-zero, zero-add, add-zero, suc-add, mul-zero, mul-suc, zero-lt-suc}
+use native.Mathlib.Nat.{le-of-suc-le-suc, not-suc-le-zero, zero-add, add-zero, suc-add, mul-zero, mul-suc, mul-add, zero-lt-suc}
 use native.Mathlib.Omega.{arith}
-use lib.ListN.{length, getD, length-append, List·getD-append}
-use lib.Seq.{getD-append-add}
+use lib.ListN.{length, getD, take, drop, length-append, List·getD-append}
+use lib.Seq.{getD-append-add, drop-drop, take-add}
 use Rattle.rules.specs.Lists.{concatMap, total}
 use Rattle.rules.specs.Lent.{rowsFrom}
 
@@ -69,3 +69,23 @@ module _ {A : Type 0} (words : A → List ℕ) (w : ℕ) (width : (a : A) → le
       (ap (λ (n : ℕ). getD (words x ++ (concatMap words xs ++ rest)) n 0) (omega (arith, width x, mul-suc w i))
       ∙ getD-append-add (words x) (concatMap words xs ++ rest) (w * i + k) 0
       ∙ number-at xs rest d i k (le-of-suc-le-suc h) l)
+
+  -- the first number of row i
+  pub first-at : (xs : List A) (rest : List ℕ) (d : A) (i : ℕ) → i < length xs → 0 < w → getD (concatMap words xs ++ rest) (w * i) 0 ≡ getD (words (getD xs i d)) 0 0
+  first-at xs rest d i h l = rw add-zero at (number-at xs rest d i 0 h l)
+
+  -- rows that were read, laid again: what stood there
+  pub words-of-rows : (s : List ℕ) (f : ℕ → A) → ((i : ℕ) → w * i + w ≤ length s → words (f i) ≡ take w (drop (w * i) s)) → (i n : ℕ) → w * (i + n) ≤ length s → concatMap words (rowsFrom f i n) ≡ take (w * n) (drop (w * i) s)
+  unfolding concatMap rowsFrom
+  words-of-rows s f h i zero l = rw mul-zero
+  words-of-rows s f h i (suc n) l =
+      let whole : w * (i + suc n) ≡ w * i + (w + w * n) = omega (arith, mul-add w i (suc n), mul-suc w n) in
+      let next : w * (i + 1) ≡ w * i + w = omega (arith, mul-add w i 1) in
+      let more : w * suc n ≡ w + w * n = omega (arith, mul-suc w n) in
+      rw (h i (omega arith), words-of-rows s f h (i + 1) n (omega (arith, mul-add w (i + 1) n)), next, ← drop-drop w (w * i) s, more) (sym (take-add w (w * n) (drop (w * i) s)))
+
+module _ {ℓ κ} {A : Type ℓ} {B : Type κ} where
+  pub concatMap-append : (f : A → List B) (xs ys : List A) → concatMap f (xs ++ ys) ≡ concatMap f xs ++ concatMap f ys
+  unfolding concatMap
+  concatMap-append f [] ys = refl
+  concatMap-append f (x ∷ xs) ys = rw (concatMap-append f xs ys, append-assoc)
