@@ -1,3 +1,8 @@
 -- Laws of the definitions, each once, for every crate above.
+pub mod Records
 pub mod Rows
 pub mod Laid
+pub mod Counts
+pub mod ReadBack
+pub mod Lookups
+pub mod Refusals

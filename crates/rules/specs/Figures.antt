@@ -1,4 +1,5 @@
--- "Figures to hold to": those that document 01 marks (*), and two of our own, in one table under one statement.
+-- "Figures to hold to": those that document 01 marks (*), and some of our own that tell apart what those do not, in one table under one
+-- statement.
 use Prim.Native.Nat.{ℕ, _-_, _^_}
 use mathlib.Core.Path.{_≡_, refl}
 use mathlib.Core.List.{List, [], _∷_}
@@ -6,7 +7,7 @@ use mathlib.Core.Bool.{true, false}
 use mathlib.Core.Option.{Option, some, none}
 use lib.Ieee.{Float, binary32, ofBits, ofInt, mul, toUnsigned}
 use Rattle.rules.specs.declared.Options.{Options}
-use Rattle.rules.specs.Lists.{any, all, keep, leading, concatMap, total, oneAbove}
+use Rattle.rules.specs.Lists.{any, all, keep, firstWith, leading, concatMap, total, oneAbove}
 use Rattle.rules.specs.Tables.{Ulid, Watermark, L0Row, Run, Tree, Source, Job, SourceId, sortedRun, sstView}
 use Rattle.rules.specs.Limit.{limitOf}
 use Rattle.rules.specs.Chain.{chain, joined, heldBack}
@@ -14,7 +15,7 @@ use Rattle.rules.specs.Windows.{usedIds, passes, last, beginningPasses, 
 use Rattle.rules.specs.Pick.{Spec, takesRows, pick, ownFirst, ownList}
 use Rattle.rules.specs.Plan.{Plan, firstFresh, freeSlots, placed, ordered, ask, pass, passesFrom, planned}
 use Rattle.rules.specs.Jobs.{adopts}
-use Rattle.rules.specs.Finish.{absent, withOutput, rowOfView, finishTree}
+use Rattle.rules.specs.Finish.{absent, withOutput, finishTree}
 
 -- ---- the tables of the figures
 
@@ -54,7 +55,7 @@ tree p vs rs = record { prefix = p; watermark = record { viewMark = 0; sstMark =
 
 -- "threshold 4, min 2, max 3"
 abbrev options : ℕ → Options
-options F = record { min = 2; max = 3; concurrent = F; threshold = four }
+options slots = record { min = 2; max = 3; concurrent = slots; threshold = four }
 
 abbrev spec : ℕ → List SourceId → ℕ → Spec
 spec p xs d = record { prefix = p; sources = xs; destination = d }
@@ -94,8 +95,8 @@ pub data Figure : Type 0 where
   chains : Float → List ℕ → ℕ → Figure
   -- a tree's own list, with no jobs
   owns : Tree → List Spec → Figure
-  -- the whole plan with F slots and no jobs: its specs and passes
-  plans : ℕ → List Tree → List Spec → ℕ → Figure
+  -- the whole plan at a concurrent limit: its specs and passes
+  plans : ℕ → List Tree → List Job → List Spec → ℕ → Figure
   -- a tree after a finish of a job's sources to a destination, with this output
   finishes : List Source → ℕ → Run → Tree → Tree → Figure
   -- whether a local job, or none, gives way to the remote one
@@ -109,7 +110,7 @@ abbrev pub Holds : Figure → Type 0
 Holds (limit threshold s n) = limitOf threshold s ≡ n
 Holds (chains threshold sizes n) = chain (limitOf threshold) sizes ≡ n
 Holds (owns t specs) = ownList (limitOf four) (options 0) (λ x. false) (firstFresh (t ∷ []) []) t ≡ specs
-Holds (plans F ts specs n) = planned (limitOf four) (options F) ts [] ≡ record { specs = specs; passes = n }
+Holds (plans slots ts js specs n) = planned (limitOf four) (options slots) ts js ≡ record { specs = specs; passes = n }
 Holds (finishes xs d out before after) = finishTree (job 2 xs d) out before ≡ after
 Holds (adopting known statuses) = adopted known ≡ statuses
 
@@ -139,9 +140,9 @@ figures =
     (spec 0 (sortedRun 3 ∷ sortedRun 2 ∷ sortedRun 1 ∷ []) 1 ∷ [])
     -- (*) "F = 3, no jobs. Plan whole: prefix 0, b c d to 13; prefix 7, 10 9 to 9; prefix 0, 12 11 to 11; passes 2. F =
     -- 2: the first two, passes 1. F = 0: none, passes 0."
-    ∷ plans 3 (root ∷ seven ∷ []) (bcd ∷ tenNine ∷ twelveEleven ∷ []) 2
-    ∷ plans 2 (root ∷ seven ∷ []) (bcd ∷ tenNine ∷ []) 1
-    ∷ plans 0 (root ∷ seven ∷ []) [] 0
+    ∷ plans 3 (root ∷ seven ∷ []) [] (bcd ∷ tenNine ∷ twelveEleven ∷ []) 2
+    ∷ plans 2 (root ∷ seven ∷ []) [] (bcd ∷ tenNine ∷ []) 1
+    ∷ plans 0 (root ∷ seven ∷ []) [] [] 0
     -- (*) "Finishing b c d to 13: L0 a, runs 13, 12, 11, watermark b. Finishing 12 11 to 11: runs 11."
     ∷ finishes (sourceView 2 ∷ sourceView 3 ∷ sourceView 4 ∷ []) 13 (run 13 3) root
     (record {
@@ -151,6 +152,12 @@ figures =
       runs = run 13 3 ∷ run 12 100 ∷ run 11 100 ∷ [];
     })
     ∷ finishes (sourceRun 12 ∷ sourceRun 11 ∷ []) 11 (run 11 200) root (tree 0 (root .l0) (run 11 200 ∷ []))
+    -- ours: "max entries or more" hold back the rows, and not more than max
+    ∷ owns (tree 0 (row 1 ∷ row 2 ∷ []) (run 3 8 ∷ run 2 8 ∷ run 1 8 ∷ []))
+    (spec 0 (sortedRun 3 ∷ sortedRun 2 ∷ sortedRun 1 ∷ []) 1 ∷ [])
+    -- ours: a longer window is not tried after a shorter beginning failed, and Compacted holds no slot
+    ∷ plans 1 (tree 0 [] (run 4 10 ∷ run 3 10 ∷ run 2 10 ∷ run 1 10 ∷ []) ∷ []) (job 3 (sourceRun 1 ∷ []) 1 ∷ [])
+    (spec 0 (sortedRun 3 ∷ sortedRun 2 ∷ []) 2 ∷ []) 1
     -- ours: the adoption table, row by row as 01 writes it
     ∷ adopting none (0 ∷ 3 ∷ 4 ∷ 5 ∷ [])
     ∷ adopting (some (job 0 [] 0)) (3 ∷ [])
@@ -163,5 +170,5 @@ figures =
 
 -- THE STATEMENT: every figure of the table holds, by computation
 pub figures-hold : AllHold figures
-unfolding limitOf toUnsigned mul ofInt ofBits any all keep leading concatMap total oneAbove chain joined heldBack usedIds passes last beginningPasses upTo lasting eligible greatest window takesRows pick ownFirst ownList firstFresh freeSlots placed ordered ask pass passesFrom planned withOutput rowOfView finishTree
-figures-hold = (refl, (refl, (refl, (refl, (refl, (refl, (refl, (refl, (refl, (refl, (refl, (refl, (refl, (refl, (refl, (refl, (refl, (refl, (refl, (refl, (refl, (refl, (refl, (refl, tt))))))))))))))))))))))))
+unfolding limitOf toUnsigned mul ofInt ofBits any all keep firstWith leading concatMap total oneAbove chain joined heldBack usedIds passes last beginningPasses upTo lasting eligible greatest window takesRows pick ownFirst ownList firstFresh freeSlots placed ordered ask pass passesFrom planned withOutput finishTree
+figures-hold = (refl, (refl, (refl, (refl, (refl, (refl, (refl, (refl, (refl, (refl, (refl, (refl, (refl, (refl, (refl, (refl, (refl, (refl, (refl, (refl, (refl, (refl, (refl, (refl, (refl, (refl, tt))))))))))))))))))))))))))

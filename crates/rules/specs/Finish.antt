@@ -5,7 +5,7 @@ use mathlib.Core.Bool.{Bool, cond, _&&_, _||_, not}
 use mathlib.Core.Option.{Option, some, none}
 use lib.Dec.{eqb, ltb}
 use lib.ListN.{length, take, drop}
-use Rattle.rules.specs.Lists.{any, keep, leading, _given_else_}
+use Rattle.rules.specs.Lists.{any, keep, firstWith, leading, _given_else_}
 use Rattle.rules.specs.Tables.{Ulid, sameUlid, Watermark, L0Row, Run, Tree, Job, SourceId, sortedRun, sstView, among, idOf, runId, viewId, isDrain, withStatus}
 use Rattle.rules.specs.Lent.{LentTrees, LentJobs, treesOf, jobsOf, runsOf}
 use Rattle.rules.specs.Bounds.{maxRuns, treesOutside, jobsOutside, treesMisshapen, jobsMisshapen, fallingIds}
@@ -34,9 +34,8 @@ withOutput out gone rs =
     runsLeft gone (take at rs) ++ (out ∷ runsLeft gone (drop at rs))
 
 -- the row of a view
-unfoldable pub rowOfView : Ulid → List L0Row → Option L0Row
-rowOfView u [] = none
-rowOfView u (v ∷ vs) = cond (sameUlid (v .view) u) (some v) (rowOfView u vs)
+abbrev pub rowOfView : Ulid → List L0Row → Option L0Row
+rowOfView u vs = firstWith (λ v. sameUlid (v .view) u) vs
 
 -- "an absent field that a call writes holds zeros"
 abbrev pub absent : Ulid

@@ -5,16 +5,15 @@ use mathlib.Core.Bool.{Bool, cond, _&&_, _||_, not}
 use mathlib.Core.Option.{Option, some, none}
 use lib.Dec.{eqb, ltb}
 use lib.ListN.{length, getD}
-use Rattle.rules.specs.Lists.{any, _given_else_}
+use Rattle.rules.specs.Lists.{any, firstWith, _given_else_}
 use Rattle.rules.specs.Tables.{Ulid, sameUlid, ulidBelow, Job, active, finished, isDrain}
 use Rattle.rules.specs.Lent.{LentJobs, jobsOf, sourcesOf}
 use Rattle.rules.specs.Bounds.{maxJobs, maxSources, jobsOutside, jobsMisshapen, goodJob, lengthsAgree}
 use Rattle.rules.specs.Validation.{lentSources}
 
 -- the job of an id
-unfoldable pub jobWith : Ulid → List Job → Option Job
-jobWith u [] = none
-jobWith u (j ∷ js) = cond (sameUlid (j .id) u) (some j) (jobWith u js)
+abbrev pub jobWith : Ulid → List Job → Option Job
+jobWith u js = firstWith (λ j. sameUlid (j .id) u) js
 
 -- the job at its place by id: "Adding an id already present replaces that record."
 unfoldable pub inserted : Job → List Job → List Job

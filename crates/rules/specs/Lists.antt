@@ -2,6 +2,7 @@
 use Prim.Native.Nat.{ℕ, suc, _+_, _-_, max}
 use mathlib.Core.List.{List, [], _∷_, _++_}
 use mathlib.Core.Bool.{Bool, true, false, cond, _&&_, _||_, not}
+use mathlib.Core.Option.{Option, some, none}
 use lib.ListN.{drop, length}
 
 infixr 15 _given_else_
@@ -18,6 +19,11 @@ module _ {ℓ} {A : Type ℓ} where
   unfoldable pub keep : (A → Bool) → List A → List A
   keep p [] = []
   keep p (x ∷ xs) = cond (p x) (x ∷ keep p xs) (keep p xs)
+
+  -- the first entry with p
+  unfoldable pub firstWith : (A → Bool) → List A → Option A
+  firstWith p [] = none
+  firstWith p (x ∷ xs) = cond (p x) (some x) (firstWith p xs)
 
   -- how many entries stand before the first one without p
   unfoldable pub leading : (A → Bool) → List A → ℕ

@@ -1,11 +1,11 @@
 -- Validation of a spec: "Jobs" of document 01, first paragraph, and refusals 6 to 9.
 use Prim.Native.Nat.{ℕ, min}
 use mathlib.Core.List.{List, [], _∷_, _++_, map}
-use mathlib.Core.Bool.{Bool, true, false, cond, _&&_, _||_, not}
+use mathlib.Core.Bool.{Bool, true, false, _&&_, _||_, not}
 use mathlib.Core.Option.{Option, some, none}
 use lib.Dec.{eqb}
 use lib.ListN.{length}
-use Rattle.rules.specs.Lists.{_given_else_}
+use Rattle.rules.specs.Lists.{firstWith, _given_else_}
 use Rattle.rules.specs.Tables.{SourceId, sortedRun, sstView, Tree, Source, sameId, idOf, runId, viewId}
 use Rattle.rules.specs.Lent.{LentTrees, treesOf, rowsFrom, sourceAt}
 use Rattle.rules.specs.Bounds.{treesOutside, treesMisshapen, isMark, goodSources, lengthsAgree}
@@ -61,9 +61,8 @@ wrongDestination d none = false
 wrongDestination d (some r) = not (eqb d r)
 
 -- the tree of a prefix
-unfoldable pub treeWith : ℕ → List Tree → Option Tree
-treeWith prefix [] = none
-treeWith prefix (t ∷ ts) = cond (eqb (t .prefix) prefix) (some t) (treeWith prefix ts)
+abbrev pub treeWith : ℕ → List Tree → Option Tree
+treeWith prefix ts = firstWith (λ t. eqb (t .prefix) prefix) ts
 
 abbrev pub isEmpty : List SourceId → Bool
 isEmpty [] = true
