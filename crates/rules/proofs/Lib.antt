@@ -2,7 +2,7 @@
 pub mod Records
 pub mod Rows
 pub mod Laid
-pub mod Counts
+pub mod Packed
 pub mod ReadBack
 pub mod Lookups
 pub mod Refusals

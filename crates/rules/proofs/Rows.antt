@@ -1,5 +1,5 @@
 -- Rows read one after another (`rowsFrom`), and rows laid one after another (`concatMap`): what is laid reads back.
-use Prim.Native.Nat.{ℕ, zero, suc, _+_, _*_, _≤_, _<_, suc-le-suc}
+use Prim.Native.Nat.{ℕ, zero, suc, _+_, _-_, _*_, _≤_, _<_, suc-le-suc}
 use mathlib.Core.Path.{_≡_, refl, sym, ap, ap₂, _∙_}
 use mathlib.Core.List.{List, [], _∷_, _++_, map, append-assoc}
 use native.Mathlib.Nat.{le-of-suc-le-suc, not-suc-le-zero, zero-add, add-zero, suc-add, mul-zero, mul-suc, mul-add, zero-lt-suc}
@@ -31,6 +31,19 @@ module _ {ℓ} {A : Type ℓ} where
   rowsFrom-append f i zero n = rw (zero-add, add-zero)
   rowsFrom-append f i (suc m) n =
       rw suc-add (ap (λ (l : List A). f i ∷ l) (rowsFrom-append f (i + 1) m n ∙ ap (λ (j : ℕ). rowsFrom f (i + 1) m ++ rowsFrom f j n) (omega arith)))
+
+  -- the rows from i up to n, for a loop that is at i: the next row and those after it, and at n none
+  pub rows-next : (f : ℕ → A) (i n : ℕ) → i < n → rowsFrom f i (n - i) ≡ f i ∷ rowsFrom f (i + 1) (n - (i + 1))
+  unfolding rowsFrom
+  rows-next f i n h =
+      let left : n - i ≡ suc (n - (i + 1)) = omega arith in
+      rw left
+
+  pub rows-end : (f : ℕ → A) (i n : ℕ) → n ≤ i → rowsFrom f i (n - i) ≡ []
+  unfolding rowsFrom
+  rows-end f i n h =
+      let left : n - i ≡ 0 = omega arith in
+      rw left
 
   -- two readers that agree wherever they read
   pub rowsFrom-same : (f g : ℕ → A) (i j n : ℕ) → ((k : ℕ) → k < n → f (i + k) ≡ g (j + k)) → rowsFrom f i n ≡ rowsFrom g j n
@@ -85,6 +98,12 @@ module _ {A : Type 0} (words : A → List ℕ) (w : ℕ) (width : (a : A) → le
       rw (h i (omega arith), words-of-rows s f h (i + 1) n (omega (arith, mul-add w (i + 1) n)), next, ← drop-drop w (w * i) s, more) (sym (take-add w (w * n) (drop (w * i) s)))
 
 module _ {ℓ κ} {A : Type ℓ} {B : Type κ} where
+  -- a part of each row
+  pub map-rowsFrom : (g : A → B) (f : ℕ → A) (i n : ℕ) → map g (rowsFrom f i n) ≡ rowsFrom (λ k. g (f k)) i n
+  unfolding rowsFrom
+  map-rowsFrom g f i zero = refl
+  map-rowsFrom g f i (suc n) = ap (λ (l : List B). g (f i) ∷ l) (map-rowsFrom g f (i + 1) n)
+
   pub concatMap-append : (f : A → List B) (xs ys : List A) → concatMap f (xs ++ ys) ≡ concatMap f xs ++ concatMap f ys
   unfolding concatMap
   concatMap-append f [] ys = refl
