@@ -1,0 +1,2 @@
+-- Laws that the proofs of rows cite.
+pub mod Sums

@@ -1,0 +1,2 @@
+// Reading, checking and moving rows of lent tables.
+pub mod bounds;
