@@ -5,8 +5,11 @@ ghost use lib.ListN.{getD};
 ghost use Rattle.rules.specs.Lists.{total};
 ghost use Rattle.rules.specs.Lent.{LentTrees, LentJobs, rowsFrom};
 ghost use Rattle.rules.specs.Bounds.{treesOutside, jobsOutside};
-
-use rules::{MAX_JOBS, MAX_L0, MAX_RUNS, MAX_SOURCES, MAX_TREES};
+use rules::MAX_JOBS;
+use rules::MAX_L0;
+use rules::MAX_RUNS;
+use rules::MAX_SOURCES;
+use rules::MAX_TREES;
 
 // A slice may be shorter than its capacity until refusal 2 has looked: what is not there counts as 0.
 fn number_at(s: &[u32], at: usize) -> u32
@@ -18,18 +21,18 @@ fn number_at(s: &[u32], at: usize) -> u32
     0
 }
 
-fn wide(x: u32) -> u64
+pub fn wide(x: u32) -> usize
     ensures { λ r. ⌜ r ≡ x ⌝ }
 {
-    x as u64
+    x as usize
 }
 
 // The sum of number `k` of each of the first `n` rows, of three numbers each, as those of trees and of jobs' specs are.
-fn column_sum(s: &[u32], k: usize, n: usize) -> u64
+pub fn column_sum(s: &[u32], k: usize, n: usize) -> usize
     requires { ⌜ (k < 3) × (n ≤ 64) ⌝ }
     ensures { λ r. ⌜ r ≡ total (rowsFrom (λ i. getD (now (s .entry)) (3 * i + k) 0) 0 n) ⌝ }
 {
-    let mut sum: u64 = 0;
+    let mut sum: usize = 0;
     let mut i = 0;
     while i < n {
         sum += wide(number_at(s, 3 * i + k));
@@ -47,10 +50,10 @@ pub fn trees_outside(count: usize, trees: &[u32]) -> bool
     if MAX_TREES < count {
         return true;
     }
-    if (MAX_L0 as u64) < column_sum(trees, 1, count) {
+    if MAX_L0 < column_sum(trees, 1, count) {
         return true;
     }
-    (MAX_RUNS as u64) < column_sum(trees, 2, count)
+    MAX_RUNS < column_sum(trees, 2, count)
 }
 
 pub fn jobs_outside(count: usize, job_specs: &[u32]) -> bool
@@ -59,5 +62,5 @@ pub fn jobs_outside(count: usize, job_specs: &[u32]) -> bool
     if MAX_JOBS < count {
         return true;
     }
-    (MAX_SOURCES as u64) < column_sum(job_specs, 2, count)
+    MAX_SOURCES < column_sum(job_specs, 2, count)
 }

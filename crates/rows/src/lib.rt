@@ -1,2 +1,4 @@
 // Reading, checking and moving rows of lent tables.
 pub mod bounds;
+pub mod ids;
+pub mod shape;

@@ -4,7 +4,7 @@ use mathlib.Core.List.{List, [], _∷_, map}
 use mathlib.Core.Bool.{Bool, false, _&&_, _||_, not}
 use lib.Dec.{leb, ltb, eqb}
 use lib.ListN.{length}
-use Rattle.rules.specs.Lists.{all, linked, distinct}
+use Rattle.rules.specs.Lists.{all, linked, distinct, _given_else_}
 use Rattle.rules.specs.Tables.{Ulid, sameUlid, ulidBelow, Watermark, L0Row, Run, Tree, Source, Job}
 use Rattle.rules.specs.Lent.{LentTrees, LentJobs, treesOf, jobsOf, l0Used, runsUsed, sourcesUsed, l0Of, runsOf}
 
@@ -104,3 +104,11 @@ jobsMisshapen j =
 -- the three slices of a spec or a job that is lent by itself: "lent lengths disagree" where they are not n, n and 2n long
 abbrev pub lengthsAgree : List ℕ → List ℕ → List ℕ → Bool
 lengthsAgree marks runs views = eqb (length runs) (length marks) && eqb (length views) (2 * length marks)
+
+-- ---- "Checks run 1, 2, ..": of one table by itself
+
+unfoldable pub treesRefusal : LentTrees → ℕ
+treesRefusal t = 1 given treesOutside t else 2 given treesMisshapen t else 0
+
+unfoldable pub jobsRefusal : LentJobs → ℕ
+jobsRefusal j = 1 given jobsOutside j else 2 given jobsMisshapen j else 0

@@ -8,7 +8,7 @@ use lib.ListN.{length, getD}
 use Rattle.rules.specs.Lists.{any, firstWith, _given_else_}
 use Rattle.rules.specs.Tables.{Ulid, sameUlid, ulidBelow, Job, active, finished, isDrain}
 use Rattle.rules.specs.Lent.{LentJobs, jobsOf, sourcesOf}
-use Rattle.rules.specs.Bounds.{maxJobs, maxSources, jobsOutside, jobsMisshapen, goodJob, lengthsAgree}
+use Rattle.rules.specs.Bounds.{maxJobs, maxSources, jobsOutside, jobsMisshapen, jobsRefusal, goodJob, lengthsAgree}
 use Rattle.rules.specs.Validation.{lentSources}
 
 -- the job of an id
@@ -114,5 +114,5 @@ unfoldable pub retained : List Job → List Job
 retained [] = []
 retained (j ∷ js) = cond (active j || not (any finished js)) (j ∷ retained js) (retained js)
 
-unfoldable pub retainRefusal : LentJobs → ℕ
-retainRefusal t = 1 given jobsOutside t else 2 given jobsMisshapen t else 0
+abbrev pub retainRefusal : LentJobs → ℕ
+retainRefusal t = jobsRefusal t

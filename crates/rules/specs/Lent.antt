@@ -25,6 +25,30 @@ pub record LentJobs : Type 0 where
   pub sourceRuns : List ℕ
   pub sourceViews : List ℕ
 
+-- the tables as a call is lent them, slice by slice
+abbrev pub lentTrees : ℕ → List ℕ → List ℕ → List ℕ → List ℕ → List ℕ → List ℕ → List ℕ → LentTrees
+lentTrees count trees watermarkMarks watermarks l0Ids l0Sizes runIds runSizes = record {
+  count = count;
+  trees = trees;
+  watermarkMarks = watermarkMarks;
+  watermarks = watermarks;
+  l0Ids = l0Ids;
+  l0Sizes = l0Sizes;
+  runIds = runIds;
+  runSizes = runSizes;
+}
+
+abbrev pub lentJobs : ℕ → List ℕ → List ℕ → List ℕ → List ℕ → List ℕ → List ℕ → LentJobs
+lentJobs count jobIds jobMarks jobSpecs sourceMarks sourceRuns sourceViews = record {
+  count = count;
+  jobIds = jobIds;
+  jobMarks = jobMarks;
+  jobSpecs = jobSpecs;
+  sourceMarks = sourceMarks;
+  sourceRuns = sourceRuns;
+  sourceViews = sourceViews;
+}
+
 -- ---- reading: "Rows stand packed from the front, those of trees in tree order, source entries in job order."
 
 module _ {ℓ} {A : Type ℓ} where

@@ -11,7 +11,6 @@ use Rattle.rows.proofs.bounds.column_sum.Lts as lts
 use Rattle.rows.proofs.bounds.number_at.Reads as number-at-reads
 use Rattle.rows.proofs.bounds.wide.Reads as wide-reads
 
-
 abbrev Inv-loop : tie.InvT-loop
 Inv-loop s k n sum₀ i₀ sum i = (i ≤ n) × (sum ≤ 4294967295 * i) × Summed (λ j. getD s (3 * j + k) 0) n sum i
 

@@ -9,7 +9,6 @@ use Rattle.rows.proofs.bounds.jobs_outside.Reads as reads
 use Rattle.rows.proofs.bounds.jobs_outside.Lts as lts
 use Rattle.rows.proofs.bounds.column_sum.Reads as column-sum-reads
 
-
 -- src/bounds.rt:60:9
 returns : tie.Need-returns
 unfolding jobsOutside

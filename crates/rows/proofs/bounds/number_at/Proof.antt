@@ -7,7 +7,6 @@ use Rattle.rows.proofs.bounds.number_at.Tie as tie
 use Rattle.rows.proofs.bounds.number_at.Reads as reads
 use Rattle.rows.proofs.bounds.number_at.Lts as lts
 
-
 -- src/bounds.rt:16:16
 mul-result : tie.Need-mul-result
 mul-result c = search needs

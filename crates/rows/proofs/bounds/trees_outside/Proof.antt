@@ -11,7 +11,6 @@ use Rattle.rows.proofs.bounds.trees_outside.Reads as reads
 use Rattle.rows.proofs.bounds.trees_outside.Lts as lts
 use Rattle.rows.proofs.bounds.column_sum.Reads as column-sum-reads
 
-
 -- src/bounds.rt:45:9
 returns : tie.Need-returns
 unfolding treesOutside
