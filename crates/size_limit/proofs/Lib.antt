@@ -1,5 +1,8 @@
--- Laws of the size limit.
+-- Laws of the size limit. Other crates cite `Thresholds` and `Grows`.
 pub mod Shifts
 pub mod Pattern
 pub mod Ends
 pub mod Fields
+pub mod Signs
+pub mod Grows
+pub mod Thresholds
