@@ -12,7 +12,7 @@ use lib.Ieee.Fits.{and-l, and-r, down-pos}
 use lib.Ieee.Nearest.{div-mono, div-same}
 use Rattle.rules.specs.Limit.{cutOf}
 
--- THE LAW of cutting out, of a float that is worth a / c
+-- the law of cutting out: a float that is worth a / c is cut to `cutOf a c`
 pub cut-value : (x : Float) (a c : ℕ) → 0 < c → HasValue x false a c → toUnsigned 64 x ≡ cutOf a c
 unfolding toUnsigned cutOf
 cut-value nan a c C h = absurd h

@@ -1,9 +1,9 @@
 -- A number's binary digits, counted by `size`.
-use mathlib.Core.Path.{_≡_, sym, subst}
+use mathlib.Core.Path.{_≡_, sym, ap, _∙_, subst}
 use Prim.Native.Nat.{ℕ, suc, _+_, _-_, _*_, _/_, _^_, _≤_, _<_}
-use native.Mathlib.Nat.{le-antisymm, le-trans, le-of-eq, mul-le-mul-right, lt-of-lt-of-le, lt-of-not-le, not-le-of-lt, pow-suc, div-lt-iff-lt-mul, zero-lt-suc}
+use native.Mathlib.Nat.{le-antisymm, le-trans, le-of-eq, mul-assoc, mul-comm, mul-le-mul-right, lt-of-lt-of-le, lt-of-not-le, not-le-of-lt, pow-suc, div-lt-iff-lt-mul, zero-lt-suc}
 use native.Mathlib.Omega.{arith}
-use lib.Pow.{pow-mono, pow-add, shl-lt}
+use lib.Pow.{pow-mono, pow-add, shl-lt, shl-shr, shr-mono}
 use lib.Ieee.{size}
 use lib.Ieee.Digits.{size-lt, size-le, size-reaches}
 
@@ -37,3 +37,21 @@ size-shift n t Z =
 
     exactly : (z x : ℕ) → 0 < z → x ≤ z + t → z - 1 + t < x → x ≡ z + t
     exactly z x Z a b = omega arith
+
+-- ---- the 24 digits that a single keeps of a longer number
+-- the number reaches the place of the first of them
+pub reaches-24 : (n : ℕ) → 24 ≤ size n → 2 ^ (23 + (size n - 24)) ≤ n
+reaches-24 n h = size-reaches n (23 + (size n - 24)) (first (size n) h)
+  where
+    first : (z : ℕ) → 24 ≤ z → 23 + (z - 24) < z
+    first z h = omega arith
+
+-- so that one is a 1
+pub leads-24 : (n : ℕ) → 24 ≤ size n → 2 ^ 23 ≤ n / 2 ^ (size n - 24)
+leads-24 n h =
+    let k = size n - 24 in
+    subst (λ (x : ℕ). x ≤ n / 2 ^ k) (shl-shr (2 ^ 23) k) (shr-mono k (le-trans (le-of-eq (sym (pow-add 2 23 k))) (reaches-24 n h)))
+
+-- a carry into a 25th digit is one more zero after 24 digits
+pub carry-24 : (q e : ℕ) → q ≡ 2 ^ 24 → q * 2 ^ e ≡ 2 ^ 23 * 2 ^ (e + 1)
+carry-24 q e p = ap (λ (x : ℕ). x * 2 ^ e) p ∙ mul-assoc (2 ^ 23) 2 (2 ^ e) ∙ ap (λ (x : ℕ). 2 ^ 23 * x) (mul-comm 2 (2 ^ e) ∙ sym (pow-add 2 e 1))

@@ -18,6 +18,7 @@ Cmp Ordering·lt a b = a < b
 Cmp Ordering·eq a b = a ≡ b
 Cmp Ordering·gt a b = b < a
 
+-- and it holds
 cmp : (a b : ℕ) → Cmp (compare a b) a b
 cmp a b = go (compare a b) (leb→le a b) (nleb→lt a b) (eqb→eq a b) (λ (e : a ≡ b). subst (λ (x : ℕ). T (eqb a x)) e (eqb-refl a))
   where
@@ -55,7 +56,7 @@ module _ (a u : ℕ) where
       go Ordering·eq k = refl
       go Ordering·gt k = absurd (omega arith)
 
--- ---- THE nearest
+-- ---- the nearest
 -- q units are within half a unit of a, and where they are half a unit away q is even
 pub record Rounds (a u q : ℕ) : Type 0 where
   pub low : 2 * a ≤ 2 * (q * u) + u
@@ -63,6 +64,7 @@ pub record Rounds (a u q : ℕ) : Type 0 where
   pub even-low : 2 * a ≡ 2 * (q * u) + u → q % 2 ≡ 0
   pub even-high : 2 * (q * u) ≡ 2 * a + u → q % 2 ≡ 0
 
+-- w units and a remainder r, rounded by how twice r compares with the unit
 rounds : (a u w r : ℕ) (o : Ordering) → 0 < u → r < u → w * u + r ≡ a → Cmp o (r * 2) u → Rounds a u (nearest w o)
 rounds a u w r Ordering·lt U R e c = record { low = omega arith; high = omega arith; even-low = λ h. absurd (omega arith); even-high = λ h. absurd (omega arith) }
 rounds a u w r Ordering·eq U R e c = tied (decLe (w % 2) 0)

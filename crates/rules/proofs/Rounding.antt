@@ -6,15 +6,15 @@ use native.Mathlib.Nat.{le-trans, le-of-eq, le-of-lt, lt-of-lt-of-le, lt-of-le-o
 use native.Mathlib.Decide.{decLe}
 use native.Mathlib.Omega.{arith}
 use lib.IntN.{pos}
-use lib.Pow.{pow-add, pow-pos, pow-mono, pow-lt, shl-shr, shr-mono}
+use lib.Pow.{pow-add, pow-pos, pow-mono, pow-lt}
 use lib.Ieee.{Float, nan, inf, fin, binary32, up, down, size, nearest, units, round, ofInt}
-use lib.Ieee.Digits.{size-lt, size-le, size-reaches}
+use lib.Ieee.Digits.{size-lt, size-le}
 use lib.Ieee.Fits.{round-is, nearest-le, kept-lt}
 use lib.Ieee.Exact.{HasValue, units-val}
 use lib.Ieee.Nearest.{closest, closest-same, nearest-ge}
 use lib.Ieee.Back.{round-whole}
 use Rattle.rules.specs.Limit.{dropped, kept, singleOf}
-use Rattle.rules.proofs.Digits.{size-shift}
+use Rattle.rules.proofs.Digits.{leads-24, size-shift}
 use Rattle.rules.proofs.Nearest.{Rounds, closest-rounds}
 
 -- ---- the digits
@@ -31,13 +31,7 @@ kept-le s = le-trans (nearest-le (s / 2 ^ (size s - 24)) (compare (s % 2 ^ (size
 -- the leading one is kept
 pub kept-ge : (s : ℕ) → 24 ≤ size s → 2 ^ 23 ≤ kept s
 unfolding kept dropped
-kept-ge s h =
-    let e = size s - 24 in
-    le-trans (subst (λ (x : ℕ). x ≤ s / 2 ^ e) (shl-shr (2 ^ 23) e) (shr-mono e (le-trans (le-of-eq (sym (pow-add 2 23 e))) (size-reaches s (23 + e) (lead (size s) h)))))
-    (nearest-ge (s / 2 ^ e) (compare (s % 2 ^ e * 2) (2 ^ e)))
-  where
-    lead : (z : ℕ) → 24 ≤ z → 23 + (z - 24) < z
-    lead z h = omega arith
+kept-ge s h = le-trans (leads-24 s h) (nearest-ge (s / 2 ^ (size s - 24)) (compare (s % 2 ^ (size s - 24) * 2) (2 ^ (size s - 24))))
 
 -- it is s in units of 2 ^ dropped s, to the nearest, a tie to the even one
 pub kept-rounds : (s : ℕ) → Rounds s (2 ^ dropped s) (kept s)
@@ -45,6 +39,7 @@ unfolding kept
 kept-rounds s = closest-rounds s (2 ^ dropped s) (pow-pos (dropped s))
 
 -- ---- the value
+-- a size is rounded as the fraction n / 1
 pub ofInt-is : (n : ℕ) → ofInt binary32 (pos n) ≡ round binary32 false n 1
 unfolding ofInt
 ofInt-is n = refl
@@ -111,7 +106,7 @@ short-is s h =
     none : (z : ℕ) → z < 24 → z - 24 ≡ 0
     none z h = omega arith
 
--- THE LAW of rounding in
+-- the law of rounding in: the single nearest to s is worth `singleOf s`
 pub single-value : (s : ℕ) → s < 2 ^ 64 → HasValue (ofInt binary32 (pos s)) false (singleOf s) 1
 single-value s h = subst (λ (x : Float). HasValue x false (singleOf s) 1) (sym (ofInt-is s)) (go (decLe 24 (size s)))
   where

@@ -1,15 +1,15 @@
--- `singleOf s` is a whole number that a single holds, and of these it is the nearest to s, a tie going to an even last digit.
+-- `singleOf s` is a whole number that a single holds, and of these it is the nearest to s, a tie going to the even one.
 use mathlib.Core.Path.{_≡_, refl, sym, ap, _∙_, subst}
 use mathlib.Core.Logic.{_⊎_, inl, inr}
 use Prim.Native.Nat.{ℕ, _+_, _-_, _*_, _%_, _^_, _≤_, _<_}
-use native.Mathlib.Nat.{eq-or-lt-of-le, le-of-eq, le-trans, lt-of-lt-of-le, lt-of-not-le, mul-assoc, mul-comm, mul-le-mul-right, suc-mul}
+use native.Mathlib.Nat.{eq-or-lt-of-le, le-of-eq, le-trans, lt-of-lt-of-le, lt-of-not-le, mul-assoc, mul-le-mul-right, suc-mul}
 use native.Mathlib.Decide.{decLe}
 use native.Mathlib.Omega.{arith}
 use lib.Dec.{lit<}
-use lib.Ieee.{size}
-use lib.Ieee.Digits.{back, size-reaches}
+use lib.Ieee.Digits.{back}
 use lib.Pow.{pow-add, pow-mono, pow-pos, shl-lt}
 use Rattle.rules.specs.Limit.{dropped, kept, singleOf}
+use Rattle.rules.proofs.Digits.{carry-24, reaches-24}
 use Rattle.rules.proofs.Nearest.{Rounds}
 use Rattle.rules.proofs.Rounding.{kept-le, kept-rounds}
 
@@ -29,19 +29,17 @@ pub single-is : (s : ℕ) → Single (singleOf s)
 unfolding singleOf
 single-is s = go (eq-or-lt-of-le (kept-le s))
   where
-    carried : (q : ℕ) → q ≡ 2 ^ 24 → q * 2 ^ dropped s ≡ 2 ^ 23 * 2 ^ (dropped s + 1)
-    carried q p = ap (λ (x : ℕ). x * 2 ^ dropped s) p ∙ mul-assoc (2 ^ 23) 2 (2 ^ dropped s) ∙ ap (λ (x : ℕ). 2 ^ 23 * x) (mul-comm 2 (2 ^ dropped s) ∙ sym (pow-add 2 (dropped s) 1))
-
     go : (kept s ≡ 2 ^ 24) ⊎ (kept s < 2 ^ 24) → Single (kept s * 2 ^ dropped s)
-    go (inl e) = record { digits = 2 ^ 23; zeros = dropped s + 1; few = lit< tt; is = carried (kept s) e }
+    go (inl e) = record { digits = 2 ^ 23; zeros = dropped s + 1; few = lit< tt; is = carry-24 (kept s) (dropped s) e }
     go (inr l) = record { digits = kept s; zeros = dropped s; few = l; is = refl }
 
 -- ---- no other is nearer
--- of two multiples of a unit the one that `Rounds` names is nearer, or both are as near and it is even
+-- n is no nearer to a than q units are, and where it is as near it is the same number or q is even
 record Nearer (a u q n : ℕ) : Type 0 where
   near : apart a (q * u) ≤ apart a n
   even : apart a n ≡ apart a (q * u) → (n ≡ q * u) ⊎ (q % 2 ≡ 0)
 
+-- so is every multiple of the unit
 multiple : (a u q k : ℕ) → 0 < u → Rounds a u q → Nearer a u q (k * u)
 multiple a u q k U r = go (decLe q k)
   where
@@ -63,10 +61,7 @@ multiple a u q k U r = go (decLe q k)
 -- where digits are dropped, 24 are kept
 reached : (s : ℕ) → 0 < dropped s → 2 ^ (23 + dropped s) ≤ s
 unfolding dropped
-reached s g = size-reaches s (23 + (size s - 24)) (more (size s) g)
-  where
-    more : (z : ℕ) → 0 < z - 24 → 23 + (z - 24) < z
-    more z g = omega arith
+reached s g = reaches-24 s (omega arith)
 
 -- so between s and a number with fewer digits lies a multiple of the unit: the leading one of s
 below : (s n : ℕ) → 0 < dropped s → n < 2 ^ (23 + dropped s) → Nearer s (2 ^ dropped s) (kept s) n
@@ -75,6 +70,7 @@ below s n d h = go (2 ^ dropped s) (multiple s (2 ^ dropped s) (kept s) (2 ^ 23)
     go : (u : ℕ) → Nearer s u (kept s) (2 ^ 23 * u) → 2 ^ (23 + dropped s) ≡ 2 ^ 23 * u → 2 ^ (23 + dropped s) ≤ s → Nearer s u (kept s) n
     go u m e g = record { near = omega (arith, m .near); even = λ x. absurd (omega (arith, m .near)) }
 
+-- and every number that a single holds
 nearer : (s n : ℕ) → Single n → Nearer s (2 ^ dropped s) (kept s) n
 nearer s n g = subst (λ (x : ℕ). Nearer s (2 ^ dropped s) (kept s) x) (sym (g .is)) (go (decLe (dropped s) (g .zeros)))
   where

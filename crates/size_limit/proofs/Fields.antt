@@ -2,21 +2,23 @@
 use mathlib.Core.Path.{_≡_, sym, ap, _∙_, subst}
 use mathlib.Core.Bool.{Bool, true, false, not, _&&_, _||_}
 use Prim.Native.Nat.{ℕ, zero, suc, _+_, _-_, _*_, _/_, _%_, _^_, _≤_, _<_, min}
-use native.Mathlib.Nat.{div-div-eq-div-mul, div-le-self, div-lt-iff-lt-mul, div-one, le-div-iff-mul-le, le-of-eq, le-trans, lt-of-le-of-lt, lt-of-lt-of-le, mod-lt, mul-assoc, mul-comm, mul-le-mul-right, mul-left-comm, mul-lt-mul-of-pos-right, mul-one, mul-pos, mul-right-comm, zero-add}
+use native.Mathlib.Nat.{div-div-eq-div-mul, div-le-self, div-lt-iff-lt-mul, div-one, le-div-iff-mul-le, le-of-eq, le-trans, lt-of-le-of-lt, lt-of-lt-of-le, mod-lt, mul-assoc, mul-comm, mul-le-mul-right, mul-left-comm, mul-lt-mul-of-pos-right, mul-one, mul-pos, mul-right-comm}
 use native.Mathlib.Omega.{arith}
 use lib.Bits.{bitAnd, bitOr, and-mask, or-shifted-r}
 use lib.Dec.{T, ltb, leb, eqb, ltb→lt}
 use lib.IntN.{ℤ, pos, negsuc}
-use lib.Pow.{pow-add, pow-pos, shl-exact, shl-lt, shl-shr, shr-mono, shr-shr}
+use lib.Pow.{pow-add, pow-pos, shl-exact, shl-lt, shl-shr, shr-shr}
 use lib.Ieee.{Float, nan, inf, fin, binary32, up, down, size, fits, isNan, toBits, le, lt, eq, toUnsigned}
-use lib.Ieee.Digits.{back, size-le, size-reaches}
-use lib.Ieee.Fits.{and-l, and-r, down-pos, kept-lt}
+use lib.Ieee.Digits.{back, size-le}
+use lib.Ieee.Fits.{and-l, and-r, kept-lt}
 use lib.Ieee.Nearest.{div-same}
-use lib.Ieee.Positive.{num, den, positive, den-pos, between, le→cross}
-use Rattle.rules.proofs.Digits.{size-gt}
-use Rattle.size_limit.proofs.Ends.{one, top}
+use lib.Ieee.Positive.{num, den, positive, den-pos, between, le→cross, own-value}
+use Rattle.rules.specs.Limit.{cutOf}
+use Rattle.rules.proofs.Cutting.{cut-value}
+use Rattle.rules.proofs.Digits.{leads-24, size-gt}
+use Rattle.size_limit.proofs.Pattern.{inUnits, no-nan, pattern-of}
+use Rattle.size_limit.proofs.Tests.{one, top}
 
--- ---- as a fraction
 lt→le : (x y : Float) → T (lt x y) → T (le x y)
 unfolding le
 lt→le x y h = or-l (lt x y) (eq x y) h
@@ -25,38 +27,27 @@ lt→le x y h = or-l (lt x y) (eq x y) h
     or-l true b t = tt
     or-l false b t = absurd t
 
-below-top : (x : Float) → T (positive x) → T (lt x top) → num x < 2 ^ 64 * den x
+-- below 2 ^ 64, as a fraction
+num-lt : (x : Float) → T (positive x) → T (lt x top) → num x < 2 ^ 64 * den x
 unfolding lt
-below-top nan p h = absurd p
-below-top (inf s) p h = absurd p
-below-top (fin true m e) p h = absurd p
-below-top (fin false m e) p h = subst (λ (k : ℕ). k < 2 ^ 64 * down e) (mul-one (m * up e)) (ltb→lt (m * up e * 1) (1 * 2 ^ 64 * down e) h)
+num-lt nan p h = absurd p
+num-lt (inf s) p h = absurd p
+num-lt (fin true m e) p h = absurd p
+num-lt (fin false m e) p h = subst (λ (k : ℕ). k < 2 ^ 64 * down e) (mul-one (m * up e)) (ltb→lt (m * up e * 1) (1 * 2 ^ 64 * down e) h)
 
+-- below 2 ^ 64 nothing is capped
 whole-part : (x : Float) → T (positive x) → num x < 2 ^ 64 * den x → toUnsigned 64 x ≡ num x / den x
-unfolding toUnsigned
-whole-part nan p h = absurd p
-whole-part (inf s) p h = absurd p
-whole-part (fin true m e) p h = absurd p
-whole-part (fin false m e) p h = uncapped (m * up e / down e) (2 ^ 64) (div-lt-iff-lt-mul (down-pos e) .1 h)
+unfolding cutOf
+whole-part x p h = cut-value x (num x) (den x) (den-pos x) (own-value x p) ∙ uncapped (num x / den x) (2 ^ 64) (div-lt-iff-lt-mul (den-pos x) .1 h)
   where
     uncapped : (a c : ℕ) → a < c → min a (c - 1) ≡ a
     uncapped a c h = omega arith
 
--- ---- in units of 2 ^ -149
-abbrev inUnits : Float → ℕ
-inUnits x = num x * 2 ^ 149 / den x
-
-units-whole : (x : Float) → inUnits x / 2 ^ 149 ≡ num x / den x
-units-whole x =
+-- the whole part of the value in units of 2 ^ -149
+units-down : (x : Float) → inUnits x / 2 ^ 149 ≡ num x / den x
+units-down x =
     div-div-eq-div-mul (num x * 2 ^ 149) (den x) (2 ^ 149)
     ∙ div-same (num x * 2 ^ 149) (den x * 2 ^ 149) (num x) (den x) (mul-pos (den-pos x) (pow-pos 149)) (den-pos x) (simp (mul-assoc, mul-comm, mul-left-comm))
-
-pattern-of : (x : Float) → T (positive x) → toBits binary32 x ≡ (size (inUnits x) - 24) * 2 ^ 23 + inUnits x / 2 ^ (size (inUnits x) - 24)
-unfolding toBits
-pattern-of nan p = absurd p
-pattern-of (inf s) p = absurd p
-pattern-of (fin true m e) p = absurd p
-pattern-of (fin false m e) p = ap (λ (y : ℕ). y + inUnits (fin false m e) / 2 ^ (size (inUnits (fin false m e)) - 24)) (zero-add ((size (inUnits (fin false m e)) - 24) * 2 ^ 23))
 
 -- a single has 24 digits
 digits-few : (m : ℕ) (e : ℤ) → T (fits binary32 (fin false (suc m) e)) → suc m < 2 ^ 24
@@ -92,19 +83,14 @@ exact (fin false (suc m) (negsuc a)) p f h =
     too-many : (z : ℕ) → z ≤ 24 + 149 → 150 ≤ z - 24 → ⊥
     too-many z a b = omega arith
 
-finite : (y : Float) → T (positive y) → T (not (isNan y))
-unfolding isNan
-finite nan p = absurd p
-finite (inf s) p = tt
-finite (fin s m e) p = tt
-
 -- ---- what the proof of `whole_part` cites
 module _ (x : Float) (F : T (fits binary32 x)) (lo : T (le one x)) (hi : T (lt x top)) where
+  -- it is above zero and finite
   P : T (positive x)
   P = between one x top tt tt lo (lt→le x top hi)
 
   pub is-no-nan : T (not (isNan x))
-  is-no-nan = finite x P
+  is-no-nan = no-nan x P
 
   -- the pattern, the value in units, how many digits of it are dropped, and those that are kept
   abbrev b : ℕ
@@ -119,6 +105,7 @@ module _ (x : Float) (F : T (fits binary32 x)) (lo : T (le one x)) (hi : T (lt x
   abbrev q : ℕ
   q = n / 2 ^ k
 
+  -- the value is of 150 to 213 digits in units
   n-ge : 2 ^ 149 ≤ n
   n-ge = le-div-iff-mul-le (den-pos x) .1 (le-trans (le-of-eq (mul-comm (2 ^ 149) (den x))) (mul-le-mul-right (2 ^ 149) (tidy (den x) (num x) (le→cross one x tt P lo))))
     where
@@ -126,7 +113,7 @@ module _ (x : Float) (F : T (fits binary32 x)) (lo : T (le one x)) (hi : T (lt x
       tidy d n h = omega arith
 
   n-lt : n < 2 ^ (64 + 149)
-  n-lt = div-lt-iff-lt-mul (den-pos x) .1 (lt-of-lt-of-le (mul-lt-mul-of-pos-right (below-top x P hi) (pow-pos 149)) (le-of-eq (mul-right-comm (2 ^ 64) (den x) (2 ^ 149))))
+  n-lt = div-lt-iff-lt-mul (den-pos x) .1 (lt-of-lt-of-le (mul-lt-mul-of-pos-right (num-lt x P hi) (pow-pos 149)) (le-of-eq (mul-right-comm (2 ^ 64) (den x) (2 ^ 149))))
 
   k-in : (126 ≤ k) × (k ≤ 189)
   k-in = go (size n) (size-gt n 149 n-ge) (size-le n 213 n-lt)
@@ -134,15 +121,17 @@ module _ (x : Float) (F : T (fits binary32 x)) (lo : T (le one x)) (hi : T (lt x
       go : (z : ℕ) → 149 < z → z ≤ 213 → (126 ≤ z - 24) × (z - 24 ≤ 189)
       go z g h = omega arith
 
+  -- 24 of them are kept
   q-lt : q < 2 ^ 24
   q-lt = kept-lt 24 n
 
   q-ge : 2 ^ 23 ≤ q
-  q-ge = subst (λ (y : ℕ). y ≤ n / 2 ^ k) (shl-shr (2 ^ 23) k) (shr-mono k (le-trans (le-of-eq (sym (pow-add 2 23 k))) (size-reaches n (23 + k) (lead (size n) (size-gt n 149 n-ge)))))
+  q-ge = leads-24 n (go (size n) (size-gt n 149 n-ge))
     where
-      lead : (z : ℕ) → 149 < z → 23 + (z - 24) < z
-      lead z h = omega arith
+      go : (z : ℕ) → 149 < z → 24 ≤ z
+      go z h = omega arith
 
+  -- the pattern is the field k, and the digits, whose leading one counts it up by one
   b-is : b ≡ k * 2 ^ 23 + q
   b-is = pattern-of x P
 
@@ -167,7 +156,7 @@ module _ (x : Float) (F : T (fits binary32 x)) (lo : T (le one x)) (hi : T (lt x
   digits = subst (λ (y : ℕ). y < 2 ^ 24) (sym digits-are) q-lt
 
   is : n / 2 ^ 149 ≡ toUnsigned 64 x
-  is = units-whole x ∙ sym (whole-part x P (below-top x P hi))
+  is = units-down x ∙ sym (whole-part x P (num-lt x P hi))
 
   -- the digits that lie below 1 are cut off
   pub cut-down : b / 2 ^ 23 ≤ 150 → bitOr (bitAnd b (2 ^ 23 - 1)) (2 ^ 23) / 2 ^ (150 - b / 2 ^ 23) ≡ toUnsigned 64 x

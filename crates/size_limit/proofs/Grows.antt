@@ -15,17 +15,18 @@ use Rattle.rules.proofs.Cutting.{cut-mono, lt-or-eq, no-factor}
 use Rattle.rules.proofs.Rounding.{ofInt-is}
 use Rattle.size_limit.proofs.Signs.{Signed, infinite, finite, size-signed, times-nan, times-negative, product-zero, round-zero}
 
--- ---- an infinite product is cut to the largest number, a NaN to 0
+-- an infinite product is cut to no less than any other, a NaN to 0
 under-largest : (x : Float) (b : Bool) → (T b → toUnsigned 64 x ≡ 0) → toUnsigned 64 x ≤ toUnsigned 64 (cond b nan (inf false))
 unfolding toUnsigned
 under-largest x true h = le-of-eq (h tt)
 under-largest x false h = le-ones 64 (toUnsigned-lt 64 x)
 
+-- infinity times zero is a NaN
 nan-at-zero : (m : ℕ) → m ≡ 0 → toUnsigned 64 (cond (eqb m 0) nan (inf false)) ≡ 0
 unfolding toUnsigned
 nan-at-zero m z = ap (λ (y : ℕ). toUnsigned 64 (cond (eqb y 0) nan (inf false))) z
 
--- ---- a product with a fixed factor that is not negative, cut towards zero, follows the order of the other factor
+-- a product with a fixed factor that is not negative, cut towards zero, follows the order of the other factor
 product-mono : {x y t : Float} → Signed false x → Signed false y → Signed false t → T (le x y) → toUnsigned 64 (mul binary32 x t) ≤ toUnsigned 64 (mul binary32 y t)
 unfolding mul le lt eq
 product-mono infinite infinite infinite h = le-refl (toUnsigned 64 (inf false))
@@ -51,7 +52,7 @@ product-mono (finite {m = m} {e = e}) (finite {m = n} {e = d}) (finite {m = k} {
 size-mono : (a b : ℕ) → a ≤ b → T (le (ofInt binary32 (pos a)) (ofInt binary32 (pos b)))
 size-mono a b h = rw (ofInt-is a, ofInt-is b) (round-mono binary32 a 1 b 1 (zero-lt-suc 0) (zero-lt-suc 0) (mul-le-mul-right 1 h))
 
--- THE LAW
+-- a larger size has no smaller limit
 pub limit-grows : (threshold : Float) (a b : ℕ) → a ≤ b → limitOf threshold a ≤ limitOf threshold b
 unfolding limitOf
 limit-grows nan a b h = le-trans (le-of-eq (times-nan (size-signed a))) zero-le

@@ -29,28 +29,34 @@ units-signed s q k = go (ltb (q * 2 ^ k) (2 ^ (149 + 128)))
     go true = odd-signed s q k
     go false = infinite
 
+-- whatever the fraction
 pub round-signed : (s : Bool) (a c : ℕ) → Signed s (round binary32 s a c)
 round-signed s a c = subst (λ (x : Float). Signed s x) (sym (round-is binary32 s a c)) (units-signed s _ _)
 
+-- a size has no minus sign
 pub size-signed : (n : ℕ) → Signed false (ofInt binary32 (pos n))
 size-signed n = subst (λ (x : Float). Signed false x) (sym (ofInt-is n)) (round-signed false n 1)
 
 -- ---- products that are cut to 0
+-- either of the two that an infinite factor gives
 nan-or-negative : (b : Bool) → toUnsigned 64 (cond b nan (inf true)) ≡ 0
 unfolding toUnsigned
 nan-or-negative true = refl
 nan-or-negative false = refl
 
+-- a negative number
 negative-cut : {x : Float} → Signed true x → toUnsigned 64 x ≡ 0
 unfolding toUnsigned
 negative-cut infinite = refl
 negative-cut finite = refl
 
+-- a NaN as a factor
 pub times-nan : {x : Float} → Signed false x → toUnsigned 64 (mul binary32 x nan) ≡ 0
 unfolding mul toUnsigned
 times-nan infinite = refl
 times-nan finite = refl
 
+-- a negative factor
 pub times-negative : {x t : Float} → Signed false x → Signed true t → toUnsigned 64 (mul binary32 x t) ≡ 0
 unfolding mul toUnsigned
 times-negative infinite infinite = refl
@@ -58,17 +64,21 @@ times-negative infinite (finite {m = n}) = nan-or-negative (eqb n 0)
 times-negative (finite {m = m}) infinite = nan-or-negative (eqb m 0)
 times-negative (finite {m = m} {e = e}) (finite {m = n} {e = d}) = negative-cut (round-signed true (m * up e * (n * up d)) (down e * down d))
 
+-- zero, rounded
 nothing : (s : Bool) → toUnsigned 64 (round binary32 s 0 1) ≡ 0
 unfolding round toUnsigned
 nothing true = refl
 nothing false = refl
 
+-- a fraction that is 0
 pub round-zero : (s : Bool) (a c : ℕ) → 0 < c → a ≡ 0 → toUnsigned 64 (round binary32 s a c) ≡ 0
 round-zero s a c C z = ap (toUnsigned 64) (round-same binary32 s a c 0 1 C (zero-lt-suc 0) (mul-one a ∙ z ∙ sym (zero-mul c))) ∙ nothing s
 
+-- a product in which a factor is 0
 pub product-zero : (a k u : ℕ) → k ≡ 0 → a * (k * u) ≡ 0
 product-zero a k u z = ap (λ (y : ℕ). a * (y * u)) z ∙ ap (λ (y : ℕ). a * y) (zero-mul u) ∙ mul-zero a
 
+-- a zero as a factor
 pub times-zero : {x : Float} (s : Bool) (e : ℤ) → Signed false x → toUnsigned 64 (mul binary32 x (fin s 0 e)) ≡ 0
 unfolding mul toUnsigned
 times-zero s e infinite = refl

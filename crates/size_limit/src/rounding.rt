@@ -3,13 +3,16 @@ ghost use mathlib.Core.Path.{_≡_};
 ghost use Rattle.rules.specs.Limit as Limit;
 ghost use Rattle.size_limit.specs.Ends.{RoundedIn};
 
+// The first number that has more digits than the 24 of a single.
+const TWO_TO_24: u64 = 16777216;
+
 // How many low digits of s a single has to drop. Halving counts them one by one.
 fn dropped(s: u64) -> u32
     ensures { λ r. ⌜ r ≡ Limit.dropped s ⌝ }
 {
     let mut q = s;
     let mut e: u32 = 0;
-    while q >= 16777216 {
+    while q >= TWO_TO_24 {
         q = q / 2;
         e += 1;
     }
@@ -39,7 +42,7 @@ fn kept(s: u64, e: u32) -> u64
 pub fn nearest_single(s: u64) -> f32
     ensures { λ r. ⌜ RoundedIn s r ⌝ }
 {
-    if s < 16777216 {
+    if s < TWO_TO_24 {
         return s as f32;
     }
     let e = dropped(s);

@@ -4,7 +4,7 @@ use Prim.Native.Nat.{ℕ}
 use lib.Ieee.{Float, toUnsigned}
 use Rattle.rules.proofs.Cutting.{cut-value}
 use Rattle.size_limit.specs.Ends.{CutOut}
-use Rattle.size_limit.proofs.Ends.{from-top, from-one, under-top, under-one}
+use Rattle.size_limit.proofs.Tests.{from-top, from-one, under-top, under-one}
 use Rattle.size_limit.proofs.cutting.cut.Statement.{statement}
 use Rattle.size_limit.proofs.cutting.cut.Tie as tie
 

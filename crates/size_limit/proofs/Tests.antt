@@ -29,14 +29,16 @@ top-is : ofBits binary32 0x5f80_0000 ≡ top
 unfolding ofBits
 top-is = refl
 
+-- the first number that is cut to the largest
 top-cut : toUnsigned 64 top ≡ 2 ^ 64 - 1
 unfolding toUnsigned
 top-cut = refl
 
-not-T : {b : Bool} → b ≡ false → T (not b)
-not-T h = subst (λ (a : Bool). T (not a)) (sym h) tt
+-- a test that failed
+failed : {b : Bool} → b ≡ false → T (not b)
+failed h = subst (λ (a : Bool). T (not a)) (sym h) tt
 
--- from 1 on, and not from 2 ^ 64 on: below 2 ^ 64
+-- what is above zero and not from 2 ^ 64 on is below it
 below-top : (x : Float) → T (above x) → T (not (le top x)) → T (lt x top)
 unfolding le lt eq
 below-top nan a h = absurd a
@@ -61,12 +63,14 @@ module _ (x : Float) where
       (subst (λ (k : ℕ). k ≤ toUnsigned 64 x) top-cut (cut-mono top x (subst (λ (y : Float). T (le y x)) top-is (subst T (sym h) tt))))
       (le-ones 64 (toUnsigned-lt 64 x))
 
+  -- from 1 on
   pub from-one : le (ofBits binary32 0x3f80_0000) x ≡ true → T (le one x)
   from-one h = subst (λ (y : Float). T (le y x)) one-is (subst T (sym h) tt)
 
+  -- from 1 up to 2 ^ 64
   pub under-top : le (ofBits binary32 0x3f80_0000) x ≡ true → le (ofBits binary32 0x5f80_0000) x ≡ false → T (lt x top)
-  under-top h k = below-top x (above-of-le one x tt (from-one h)) (subst (λ (y : Float). T (not (le y x))) top-is (not-T k))
+  under-top h k = below-top x (above-of-le one x tt (from-one h)) (subst (λ (y : Float). T (not (le y x))) top-is (failed k))
 
   -- "Not-a-number and anything below 1 give 0"
   pub under-one : le (ofBits binary32 0x3f80_0000) x ≡ false → 0 ≡ toUnsigned 64 x
-  under-one h = below-one 64 x (subst (λ (y : Float). T (not (le y x))) one-is (not-T h))
+  under-one h = below-one 64 x (subst (λ (y : Float). T (not (le y x))) one-is (failed h))
