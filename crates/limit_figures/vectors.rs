@@ -3,7 +3,7 @@
 //!     rustc --edition 2024 -O crates/limit_figures/vectors.rs -o target/vectors && target/vectors > crates/limit_figures/stdin
 //!
 //! Every line has 43 bytes. A class is a line with the number of its cases and its name, then its cases: the threshold's
-//! pattern, the size and the answer, in hexadecimal.
+//! pattern, the size and the answer, in hexadecimal. The file stdout has a line for each class, on which all cases agree.
 
 fn limit(threshold: f32, size: u64) -> u64 {
     (size as f32 * threshold) as u64
