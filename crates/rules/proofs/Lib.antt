@@ -1,4 +1,5 @@
--- Laws of the definitions, each once, for every crate above.
+-- Laws of the definitions, each once, for every crate above: of tables and rows, of look-ups and refusals, and of the two
+-- whole-number ends of the size limit.
 pub mod Records
 pub mod Rows
 pub mod Laid
@@ -6,3 +7,8 @@ pub mod Packed
 pub mod ReadBack
 pub mod Lookups
 pub mod Refusals
+pub mod Digits
+pub mod Nearest
+pub mod Rounding
+pub mod Singles
+pub mod Cutting
