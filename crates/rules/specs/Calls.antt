@@ -1,7 +1,7 @@
 -- What each public call answers and leaves behind: one definition a call. "Each returns its number alone; every lent table
 -- and output keeps its bytes."
 use Prim.Native.Nat.{ℕ, zero, suc}
-use mathlib.Core.List.{List}
+use mathlib.Core.List.{List, [], _∷_}
 use mathlib.Core.Option.{Option, some, none}
 use lib.ListN.{length}
 use Rattle.rules.specs.declared.Options.{Options}
@@ -22,11 +22,16 @@ use Rattle.rules.specs.Validation.{LentSpec, treeWith, validateRefusal}
 use Rattle.rules.specs.Jobs.{LentJob, jobOf, jobWith, inserted, merged, retained, addRefusal, mergeRefusal, retainRefusal}
 use Rattle.rules.specs.Finish.{inTree, setStatus, finishTree, drainTree, finishRefusal, drainRefusal}
 
--- ---- the answers: 01's number, 0 for none, and the values of each case
+-- ---- the answers: 01's number, 0 for none, and the values of each case: the specs and passes, the new job count, and 0
+-- for a commit or 1 for a missing segment
 
 unfoldable pub planNumber : PlanAnswer → ℕ
 planNumber (Planned specs passes) = 0
 planNumber (planRefused n) = n
+
+unfoldable pub planValues : PlanAnswer → List ℕ
+planValues (Planned specs passes) = specs ∷ passes ∷ []
+planValues (planRefused n) = []
 
 unfoldable pub validateNumber : ValidateAnswer → ℕ
 validateNumber Accepted = 0
@@ -36,10 +41,19 @@ unfoldable pub jobsNumber : JobsAnswer → ℕ
 jobsNumber (Jobs count) = 0
 jobsNumber (jobsRefused n) = n
 
+unfoldable pub jobsValues : JobsAnswer → List ℕ
+jobsValues (Jobs count) = count ∷ []
+jobsValues (jobsRefused n) = []
+
 unfoldable pub finishNumber : FinishAnswer → ℕ
 finishNumber Committed = 0
 finishNumber SegmentMissing = 0
 finishNumber (finishRefused n) = n
+
+unfoldable pub finishValues : FinishAnswer → List ℕ
+finishValues Committed = 0 ∷ []
+finishValues SegmentMissing = 1 ∷ []
+finishValues (finishRefused n) = []
 
 -- ---- planning
 
@@ -90,7 +104,7 @@ pub record FinishResult : Type 0 where
   pub trees : LentTrees
   pub jobMarks : List ℕ
 
--- "Status becomes 4."
+-- "Status becomes 4.", and a drain's "status 4"
 abbrev pub marksAt : ℕ → Ulid → LentJobs → List ℕ
 marksAt status u j = layJobs j (setStatus u status (jobsOf j)) .jobMarks
 

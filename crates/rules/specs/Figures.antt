@@ -1,6 +1,6 @@
 -- "Figures to hold to": those that document 01 marks (*), and some of our own that tell apart what those do not, in one table under one
 -- statement.
-use Prim.Native.Nat.{ℕ, _-_, _^_}
+use Prim.Native.Nat.{ℕ, _+_, _-_, _^_}
 use mathlib.Core.Path.{_≡_, refl}
 use mathlib.Core.List.{List, [], _∷_}
 use mathlib.Core.Bool.{true, false}
@@ -13,7 +13,7 @@ use Rattle.rules.specs.Limit.{limitOf}
 use Rattle.rules.specs.Chain.{chain, joined, heldBack}
 use Rattle.rules.specs.Windows.{usedIds, passes, last, beginningPasses, upTo, lasting, eligible, greatest, window}
 use Rattle.rules.specs.Pick.{Spec, takesRows, pick, ownFirst, ownList}
-use Rattle.rules.specs.Plan.{Plan, firstFresh, freeSlots, placed, ordered, ask, pass, passesFrom, planned}
+use Rattle.rules.specs.Plan.{Plan, firstFresh, freeSlots, placed, ordered, ask, pass, passesFrom, planned, ownListOf}
 use Rattle.rules.specs.Jobs.{adopts}
 use Rattle.rules.specs.Finish.{absent, withOutput, finishTree}
 
@@ -46,14 +46,14 @@ run i s = record { id = i; size = s }
 abbrev ulid : ℕ → Ulid
 ulid n = record { high = 0; low = n }
 
--- an L0 row of size 1
+-- an L0 row of size 1; its SST has an id of its own
 abbrev row : ℕ → L0Row
-row n = record { view = ulid n; sst = ulid n; size = 1 }
+row n = record { view = ulid n; sst = ulid (100 + n); size = 1 }
 
 abbrev tree : ℕ → List L0Row → List Run → Tree
 tree p vs rs = record { prefix = p; watermark = record { viewMark = 0; sstMark = 0; view = absent; sst = absent }; l0 = vs; runs = rs }
 
--- "threshold 4, min 2, max 3"
+-- "Threshold 4, min 2, max 3"
 abbrev options : ℕ → Options
 options slots = record { min = 2; max = 3; concurrent = slots; threshold = four }
 
@@ -109,7 +109,7 @@ adopted known = keep (λ s. adopts known (job s [] 0)) (0 ∷ 1 ∷ 2 ∷ 3 ∷ 
 abbrev pub Holds : Figure → Type 0
 Holds (limit threshold s n) = limitOf threshold s ≡ n
 Holds (chains threshold sizes n) = chain (limitOf threshold) sizes ≡ n
-Holds (owns t specs) = ownList (limitOf four) (options 0) (λ x. false) (firstFresh (t ∷ []) []) t ≡ specs
+Holds (owns t specs) = ownListOf (limitOf four) (options 0) (t ∷ []) [] t ≡ specs
 Holds (plans slots ts js specs n) = planned (limitOf four) (options slots) ts js ≡ record { specs = specs; passes = n }
 Holds (finishes xs d out before after) = finishTree (job 2 xs d) out before ≡ after
 Holds (adopting known statuses) = adopted known ≡ statuses
@@ -147,7 +147,7 @@ figures =
     ∷ finishes (sourceView 2 ∷ sourceView 3 ∷ sourceView 4 ∷ []) 13 (run 13 3) root
     (record {
       prefix = 0;
-      watermark = record { viewMark = 1; sstMark = 1; view = ulid 2; sst = ulid 2 };
+      watermark = record { viewMark = 1; sstMark = 1; view = ulid 2; sst = ulid 102 };
       l0 = row 1 ∷ [];
       runs = run 13 3 ∷ run 12 100 ∷ run 11 100 ∷ [];
     })
@@ -170,5 +170,5 @@ figures =
 
 -- THE STATEMENT: every figure of the table holds, by computation
 pub figures-hold : AllHold figures
-unfolding limitOf toUnsigned mul ofInt ofBits any all keep firstWith leading concatMap total oneAbove chain joined heldBack usedIds passes last beginningPasses upTo lasting eligible greatest window takesRows pick ownFirst ownList firstFresh freeSlots placed ordered ask pass passesFrom planned withOutput finishTree
+unfolding limitOf toUnsigned mul ofInt ofBits any all keep firstWith leading concatMap total oneAbove chain joined heldBack usedIds passes last beginningPasses upTo lasting eligible greatest window takesRows pick ownFirst ownList firstFresh freeSlots placed ordered ask pass passesFrom planned ownListOf withOutput finishTree
 figures-hold = (refl, (refl, (refl, (refl, (refl, (refl, (refl, (refl, (refl, (refl, (refl, (refl, (refl, (refl, (refl, (refl, (refl, (refl, (refl, (refl, (refl, (refl, (refl, (refl, (refl, (refl, tt))))))))))))))))))))))))))

@@ -1,4 +1,4 @@
--- Finishing and draining: "Jobs" of document 01, last paragraph, and refusals 7 and 11 to 14.
+-- Finishing and draining, of jobs of "any status": "Jobs" of document 01, last paragraph, and refusals 7 and 11 to 14.
 use Prim.Native.Nat.{ℕ}
 use mathlib.Core.List.{List, [], _∷_, _++_, map}
 use mathlib.Core.Bool.{Bool, cond, _&&_, _||_, not}

@@ -21,7 +21,7 @@ inserted j [] = j ∷ []
 inserted j (k ∷ ks) =
     cond (sameUlid (k .id) (j .id)) (j ∷ ks) (cond (ulidBelow (j .id) (k .id)) (j ∷ k ∷ ks) (k ∷ inserted j ks))
 
--- 14: "the result exceeds 64 jobs, 1,024 entries"
+-- 14: "the result exceeds 64 jobs, 1,024 entries .. (entries of a job to be added count only here)"
 unfoldable pub tooMany : List Job → Bool
 tooMany js = ltb maxJobs (length js) || ltb maxSources (length (sourcesOf js))
 

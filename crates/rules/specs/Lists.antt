@@ -59,6 +59,6 @@ unfoldable pub oneAbove : List ℕ → ℕ
 oneAbove [] = 0
 oneAbove (x ∷ xs) = max (suc x) (oneAbove xs)
 
--- a refusal is its number, 0 for none: n, "given exactly when" b, else what the later checks say
+-- a refusal is its number, 0 for none: n "Given exactly when" b, else what the later checks say
 abbrev pub _given_else_ : ℕ → Bool → ℕ → ℕ
 n given b else later = cond b n later

@@ -84,13 +84,13 @@ abbrev pub andOn : Option Picked → (Picked → List Spec) → List Spec
 andOn none more = []
 andOn (some p) more = p .spec ∷ more p
 
--- the first n entries of a tree's own list: "picks from this tree only, starting with the call's used ids and first fresh
--- number, each pick added to the used ids, until there is none"
+-- the first n entries of a tree's own list: "picks from this tree only, .. each pick added to the used ids, until there is
+-- none"
 unfoldable pub ownFirst : (ℕ → ℕ) → Options → ℕ → (SourceId → Bool) → ℕ → Tree → List Spec
 ownFirst lim o zero used fresh t = []
 ownFirst lim o (suc n) used fresh t =
     andOn (pick lim o used fresh t) (λ p. ownFirst lim o n (also used (p .spec)) (p .fresh) t)
 
--- "A tree's own list": each pick uses a row that was free, so there are no more entries than the tree has rows
+-- its own list: each pick uses a row that was free, so there are no more entries than the tree has rows
 unfoldable pub ownList : (ℕ → ℕ) → Options → (SourceId → Bool) → ℕ → Tree → List Spec
 ownList lim o used fresh t = ownFirst lim o (length (t .l0) + length (t .runs)) used fresh t

@@ -10,15 +10,15 @@ use Rattle.rules.specs.Lists.{keep, oneAbove}
 use Rattle.rules.specs.Tables.{SourceId, Tree, Job, among, active, holdsSlot, isDrain}
 use Rattle.rules.specs.Lent.{runsOf}
 use Rattle.rules.specs.Windows.{usedIds}
-use Rattle.rules.specs.Pick.{Spec, Picked, pick, specUses, idsOf, lastRun}
+use Rattle.rules.specs.Pick.{Spec, Picked, pick, specUses, ownList, idsOf, lastRun}
 
 -- "one above the largest of all committed run ids and active destinations, 0 if there are none, and stops at
--- 4,294,967,295"
+-- 4,294,967,295. Active sources do not count here."; of a job of an unknown prefix "its destination counts"
 unfoldable pub firstFresh : List Tree → List Job → ℕ
 firstFresh ts js =
     min (oneAbove (idsOf (runsOf ts) ++ map (λ j. j .destination) (keep (λ j. active j && not (isDrain j)) js))) lastRun
 
--- "F is the concurrent limit less the slots held, 0 if negative."
+-- "F is the concurrent limit less the slots held, 0 if negative."; a job of an unknown prefix "holds a slot"
 unfoldable pub freeSlots : Options → List Job → ℕ
 freeSlots o js = o .concurrent - length (keep holdsSlot js)
 
@@ -86,3 +86,7 @@ start o ts js = record {
 -- "One planning call"
 unfoldable pub planned : (ℕ → ℕ) → Options → List Tree → List Job → Plan
 planned lim o ts js = passesFrom lim o (ordered ts) (freeSlots o js) 0 (start o ts js)
+
+-- "A tree's own list: picks from this tree only, starting with the call's used ids and first fresh number"
+unfoldable pub ownListOf : (ℕ → ℕ) → Options → List Tree → List Job → Tree → List Spec
+ownListOf lim o ts js t = ownList lim o (λ x. among x (usedIds js (t .prefix))) (firstFresh ts js) t

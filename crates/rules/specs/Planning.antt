@@ -34,7 +34,7 @@ specPlaces p = length (p .specs) / 3
 abbrev pub sourcePlaces : LentPlan → ℕ
 sourcePlaces p = min (length (p .marks)) (min (length (p .runs)) (length (p .views) / 2))
 
--- 5: "lent plan has fewer spec places than F or fewer source places than L0 rows plus runs"
+-- "the plan is refusal 5's": "lent plan has fewer spec places than F or fewer source places than L0 rows plus runs"
 unfoldable pub planTooSmall : ℕ → LentTrees → LentPlan → Bool
 planTooSmall F t p = ltb (specPlaces p) F || ltb (sourcePlaces p) (l0Used t + runsUsed t)
 

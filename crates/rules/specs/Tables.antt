@@ -48,7 +48,7 @@ pub record Source : Type 0 where
   pub run : ℕ
   pub view : Ulid
 
--- "A job has an id, spec, status."; "A spec is tiered (prefix, sources, destination) or drain (prefix, sources)."
+-- "A job has an id, spec, status. Jobs stand in rising id order."; "A spec is tiered (prefix, sources, destination) or drain (prefix, sources)."
 pub record Job : Type 0 where
   pub id : Ulid
   pub status : ℕ

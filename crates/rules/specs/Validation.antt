@@ -31,7 +31,7 @@ specMisshapen s =
     && isMark (s .drain)
     && goodSources (lentSources (s .marks) (s .runs) (s .views)))
 
--- "the tree's L0 then runs, as one list"
+-- "the tree's L0 then runs, as one list; they may cross the boundary"
 abbrev pub logicalOrder : Tree → List SourceId
 logicalOrder t = map viewId (t .l0) ++ map runId (t .runs)
 

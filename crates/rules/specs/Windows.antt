@@ -13,7 +13,8 @@ use Rattle.rules.specs.Chain.{chain, heldBack}
 abbrev pub jobUses : Job → List SourceId
 jobUses j = map idOf (j .sources) ++ cond (isDrain j) [] (sortedRun (j .destination) ∷ [])
 
--- "Used ids of a tree: every source of its active jobs, and ..": by the tree's prefix
+-- "Used ids of a tree: every source of its active jobs, and ..": by the tree's prefix, so that "A job of an unknown prefix
+-- blocks no tree"
 unfoldable pub usedIds : List Job → ℕ → List SourceId
 usedIds js prefix = concatMap jobUses (keep (λ j. active j && eqb (j .prefix) prefix) js)
 
