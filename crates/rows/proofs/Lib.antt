@@ -1,0 +1,5 @@
+-- The laws that the proofs of several functions cite, and those that callers cite.
+pub mod Paste
+pub mod Place
+pub mod Pack
+pub mod Gap
