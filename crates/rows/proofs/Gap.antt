@@ -1,6 +1,6 @@
 -- A gap of rows that is opened and filled (`opened`), and one that is closed (`closed`): what the copies of open_rows and
 -- close_rows leave, and the slice's length.
-use mathlib.Core.Path.{_≡_, sym, ap, _∙_}
+use mathlib.Core.Path.{_≡_, ap, _∙_}
 use Prim.Native.Nat.{ℕ, _+_, _*_, _-_, _≤_}
 use native.Mathlib.Nat.{mul-add}
 use native.Mathlib.Omega.{arith}
@@ -50,7 +50,8 @@ module _ (w n at k : ℕ) (l new : List ℕ) (within : at ≤ n) (room : w * (n 
       (omega arith)
 
   -- after both copies
-  pub open-all : {col col′ : List ℕ} → col ≡ paste l (w * at + w * k) (drop (w * at) l) (w * (n - at)) → col′ ≡ paste col (w * at) new (w * k) → col′ ≡ laid (w * n) (opened w n at new k l) l
+  pub open-all : {col col′ : List ℕ} → col ≡ paste l (w * at + w * k) (drop (w * at) l) (w * (n - at)) → col′ ≡ paste col (w * at) new (w * k)
+      → col′ ≡ laid (w * n) (opened w n at new k l) l
   unfolding opened
   open-all p q =
       let split : OpenRoom w n at k = open-room w n at k within in
@@ -74,21 +75,27 @@ close-room w n at k h =
     let e : n ≡ at + k + (n - (at + k)) = omega arith in
     (ap (λ (m : ℕ). w * m) e ∙ mul-add w (at + k) (n - (at + k)), mul-add w at k)
 
+-- m numbers from number f on move down to number b, and what they leave up to number u is cleared
+gap-closed : (l : List ℕ) (b f m u : ℕ) {col col′ : List ℕ} → b ≤ f → f + m ≡ u → u ≤ length l
+    → col ≡ paste l b (drop f l) m → col′ ≡ paste col (b + m) (replicate (f - b) 0) (f - b) → col′ ≡ laid u (take b l ++ take m (drop f l)) l
+gap-closed l b f m u {col} low end room p q =
+    let rest : length (drop f l) ≡ length l - f = length-drop f l in
+    let gap : f - b ≡ u - (b + m) = omega arith in
+    freed {d = b + m} l col (omega arith)
+    (rw (p, length-paste l b (drop f l) m (omega arith) (omega arith)) room)
+    (rw p (take-paste l b (drop f l) m (omega arith) (omega arith)))
+    (rw p (drop-behind l b (drop f l) m u (omega arith) (omega arith) (omega arith)))
+    (rw gap at q)
+
 module _ (w n at k : ℕ) (l : List ℕ) (within : at + k ≤ n) (room : w * n ≤ length l) where
   -- after the copy, and with what it frees cleared
   pub close-all : {col col′ : List ℕ} → col ≡ paste l (w * at) (drop (w * (at + k)) l) (w * (n - (at + k)))
       → col′ ≡ paste col (w * at + w * (n - (at + k))) (replicate (w * (at + k) - w * at) 0) (w * (at + k) - w * at)
       → col′ ≡ laid (w * n) (closed w n at k l) l
   unfolding closed
-  close-all {col} p q =
+  close-all p q =
       let split : CloseRoom w n at k = close-room w n at k within in
-      let rest : length (drop (w * (at + k)) l) ≡ length l - w * (at + k) = length-drop (w * (at + k)) l in
-      let gap : w * (at + k) - w * at ≡ w * n - (w * at + w * (n - (at + k))) = omega arith in
-      freed {d = w * at + w * (n - (at + k))} l col (omega arith)
-      (rw (p, length-paste l (w * at) (drop (w * (at + k)) l) (w * (n - (at + k))) (omega arith) (omega arith)) room)
-      (rw p (take-paste l (w * at) (drop (w * (at + k)) l) (w * (n - (at + k))) (omega arith) (omega arith)))
-      (rw p (drop-behind l (w * at) (drop (w * (at + k)) l) (w * (n - (at + k))) (w * n) (omega arith) (omega arith) (omega arith)))
-      (rw gap at q)
+      gap-closed l (w * at) (w * (at + k)) (w * (n - (at + k))) (w * n) (omega arith) (omega arith) room p q
 
   -- close_rows leaves the slice its length
   pub length-close : length (laid (w * n) (closed w n at k l) l) ≡ length l

@@ -3,3 +3,4 @@ pub mod Paste
 pub mod Place
 pub mod Pack
 pub mod Gap
+pub mod Lift
