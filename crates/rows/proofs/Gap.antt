@@ -11,14 +11,15 @@ use Rattle.rules.specs.Lent.{laid}
 use Rattle.rules.proofs.Laid.{length-laid}
 use Rattle.rows.specs.Movers.{opened, closed}
 use Rattle.rows.proofs.Paste.{drop-behind}
-use Rattle.rows.proofs.Place.{freed, grown}
+use Rattle.rows.proofs.Laying.{freed, grown}
 
 -- ---- opening
 
--- the room of n + k rows: those before row `at`, the gap, and those from row `at` on
+-- the room of n + k rows, in parts: the rows before row `at`, the gap, and the rows from row `at` on
 abbrev pub OpenRoom : ℕ → ℕ → ℕ → ℕ → Type 0
 OpenRoom w n at k = w * (n + k) ≡ w * at + w * k + w * (n - at)
 
+-- it is so where `at` is one of the rows, or their end
 pub open-room : (w n at k : ℕ) → at ≤ n → OpenRoom w n at k
 open-room w n at k h =
     let e : n + k ≡ at + k + (n - at) = omega arith in
@@ -66,10 +67,11 @@ module _ (w n at k : ℕ) (l new : List ℕ) (within : at ≤ n) (room : w * (n 
 
 -- ---- closing
 
--- the room of n rows: those before row `at`, the k that go, and those behind them
+-- the room of n rows, in parts: the rows before row `at`, the k that go, and the rows behind them
 abbrev pub CloseRoom : ℕ → ℕ → ℕ → ℕ → Type 0
 CloseRoom w n at k = (w * n ≡ w * (at + k) + w * (n - (at + k))) × (w * (at + k) ≡ w * at + w * k)
 
+-- it is so where the k rows are among them
 pub close-room : (w n at k : ℕ) → at + k ≤ n → CloseRoom w n at k
 close-room w n at k h =
     let e : n ≡ at + k + (n - (at + k)) = omega arith in

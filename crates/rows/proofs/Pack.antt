@@ -11,7 +11,7 @@ use Rattle.rules.specs.Lent.{laid}
 use Rattle.rules.proofs.Laid.{length-laid}
 use Rattle.rows.specs.Movers.{kept}
 use Rattle.rows.proofs.Paste.{drop-behind}
-use Rattle.rows.proofs.Place.{freed}
+use Rattle.rows.proofs.Laying.{freed}
 
 -- one mark more
 kept-snoc : (w : ℕ) (ks : List ℕ) (k : ℕ) (l : List ℕ) → kept w (ks ++ (k ∷ [])) l ≡ kept w ks l ++ kept w (k ∷ []) (drop (w * length ks) l)
@@ -74,6 +74,7 @@ pack-none {w} h = record {
 pub pack-room : {w n : ℕ} {ks l col : List ℕ} {i s d : ℕ} → Packed w n ks l col i s d → i < n → s + w ≤ length l
 pack-room {w} {i = i} I lt = omega (arith, mul-suc w i, mul-le-mul-left w lt)
 
+-- where the next row begins
 next : (w i : ℕ) {s : ℕ} → s ≡ w * i → s + w ≡ w * (i + 1)
 next w i e = rw (e, add-one, mul-suc)
 

@@ -16,7 +16,7 @@ drop-behind d at s n i hd hs h =
     let later : (r : List ℕ) → drop i r ≡ drop (i - (at + n)) (drop (at + n) r) = λ r. rw (drop-drop, e) in
     later (paste d at s n) ∙ ap (drop (i - (at + n))) (drop-paste d at s n hd hs) ∙ sym (later d)
 
--- ---- upwards from number `at`: k of the first n numbers of s are written into l
+-- ---- from the first number on: k of the first n numbers of s are written into l, to number `at` on
 
 pub record Pasted (l : List ℕ) (at : ℕ) (s : List ℕ) (n : ℕ) (a : List ℕ) (k : ℕ) : Type 0 where
   pub have : n ≤ length s
@@ -45,17 +45,19 @@ pasted-all {n = n} {k = k} I h =
     let e : k ≡ n = omega arith in
     rw e at (I .is)
 
--- zeros: as many as are asked for, and each is 0
+-- n zeros, before the first turn
 pub zeros-none : {l : List ℕ} {at n : ℕ} → at + n ≤ length l → Pasted l at (replicate n 0) n l 0
 zeros-none {n = n} room = pasted-none (omega (arith, length-replicate {A = ℕ} n 0)) room
 
+-- a turn that writes a zero
 pub zeros-more : {l : List ℕ} {at n : ℕ} {a : List ℕ} {k : ℕ} → Pasted l at (replicate n 0) n a k → k < n → Pasted l at (replicate n 0) n (set a (at + k) 0) (k + 1)
 zeros-more {n = n} {k = k} I lt = pasted-more I lt (sym (getD-replicate n k 0 0 lt))
 
--- a part of the list itself, written further down: what is still to be read is as it was
+-- a part of the list itself, written further down, before the first turn
 pub down-none : {l : List ℕ} {to from n : ℕ} → (to ≤ from) × (from + n ≤ length l) → Pasted l to (drop from l) n l 0
 down-none {l} {from = from} h = pasted-none (omega (arith, length-drop from l)) (omega arith)
 
+-- a turn that copies a number down: what is still to be read is as it was
 pub down-more : {l a : List ℕ} {to from n k : ℕ} → Pasted l to (drop from l) n a k → to ≤ from → k < n → Pasted l to (drop from l) n (set a (to + k) (getD a (from + k) 0)) (k + 1)
 down-more {l} {a} {to} {from} {n} {k} I low lt =
     let first : (r : List ℕ) → getD r (from + k) 0 ≡ getD (drop (from + k) r) 0 0 = λ r. rw (getD-drop, add-zero) in
@@ -65,7 +67,8 @@ down-more {l} {a} {to} {from} {n} {k} I low lt =
     ∙ sym (first l)
     ∙ sym (getD-drop from l k 0))
 
--- ---- downwards: the last n - k of n numbers from number `from` on are written to number `to` on
+-- ---- from the last number back: of the n numbers of l from number `from` on all but the first k are written to number
+-- `to` on
 
 pub record Raised (l : List ℕ) (to from n : ℕ) (a : List ℕ) (k : ℕ) : Type 0 where
   pub above : from ≤ to

@@ -83,7 +83,8 @@ pub fn open_rows(col: &mut [u8], w: usize, n: usize, at: usize, new: &[u8], k: u
 {
     let from = w * at;
     let gap = w * k;
-    copy_up(col, from + gap, from, w * (n - at));
+    let rest = w * (n - at);
+    copy_up(col, from + gap, from, rest);
     copy_in(col, from, new, gap);
 }
 

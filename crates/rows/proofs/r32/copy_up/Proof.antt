@@ -38,13 +38,13 @@ loop-less : tie.Need-loop-less Inv-loop μ-loop
 loop-less c = search needs
 
 loop-again : tie.Need-loop-again Inv-loop μ-loop
-loop-again c = raised-more (c .before .before .loop .inv) (c .before .loop-test .taken)
+loop-again c = raised-more (c .before .before .loop .inv) (search needs)
 
 same-length : tie.Need-same-length Inv-loop μ-loop
 same-length c = search needs
 
 returns : tie.Need-returns Inv-loop μ-loop
-returns c = raised-all (c .before .loop .inv) (c .loop-test .left)
+returns c = raised-all (c .before .loop .inv) (search needs)
 
 pub copy-up-spec : {M : Type 1} → statement M
 copy-up-spec =

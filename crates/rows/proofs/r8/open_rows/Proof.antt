@@ -16,14 +16,14 @@ mul-from c = omega (arith, room (c .before .before))
 mul-gap : tie.Need-mul-gap
 mul-gap c = search needs
 
+sub-rest : tie.Need-sub-rest
+sub-rest c = search needs
+
+mul-rest : tie.Need-mul-rest
+mul-rest c = omega (arith, room (c .before .before))
+
 add-copy-up : tie.Need-add-copy-up
 add-copy-up c = omega (arith, room (c .before .before .before))
-
-sub-copy-up : tie.Need-sub-copy-up
-sub-copy-up c = search needs
-
-mul-copy-up : tie.Need-mul-copy-up
-mul-copy-up c = omega (arith, room (c .before .before .before))
 
 copy-up-requires : tie.Need-copy-up-requires
 copy-up-requires c κs = omega (arith, room (c .before .before .before))
@@ -47,9 +47,9 @@ open-rows-spec =
     (tie.spec
     mul-from
     mul-gap
+    sub-rest
+    mul-rest
     add-copy-up
-    sub-copy-up
-    mul-copy-up
     copy-up-requires
     copy-in-requires
     same-length

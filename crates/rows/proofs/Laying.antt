@@ -1,4 +1,5 @@
--- How a slice comes to be laid (`laid` of rules): zeros over what is freed, or new numbers up to where the old ones go on.
+-- How a slice comes to be laid (`laid` of rules): with zeros over what is freed, with more numbers than were in use, and over
+-- what was laid before.
 use Prim.Native.Nat.{ℕ, zero, suc, _+_, _-_, _≤_, max}
 use mathlib.Core.Path.{_≡_, sym, ap, _∙_}
 use mathlib.Core.List.{List, _++_, append-assoc}
