@@ -1,4 +1,7 @@
-// Reading, checking and moving rows of lent tables.
+// Reading, checking and moving rows of lent tables. The movers have a module for each element type of the slices.
 pub mod bounds;
 pub mod ids;
+pub mod r32;
+pub mod r64;
+pub mod r8;
 pub mod shape;
