@@ -8,3 +8,5 @@ pub mod Laying
 pub mod Pack
 pub mod Gap
 pub mod Lift
+pub mod Shapes
+pub mod Falls

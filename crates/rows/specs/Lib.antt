@@ -1,2 +1,3 @@
 -- The definitions that the contracts of rows cite.
 pub mod Movers
+pub mod Shape

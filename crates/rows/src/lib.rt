@@ -5,3 +5,4 @@ pub mod r32;
 pub mod r64;
 pub mod r8;
 pub mod shape;
+pub mod trees;

@@ -7,6 +7,7 @@ pub mod Packed
 pub mod ReadBack
 pub mod Lookups
 pub mod Refusals
+pub mod Bounds
 pub mod Digits
 pub mod Nearest
 pub mod Rounding

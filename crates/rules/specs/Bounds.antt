@@ -75,18 +75,18 @@ abbrev pub goodMarks : Tree → Bool
 goodMarks t = isMark (t .watermark .viewMark) && isMark (t .watermark .sstMark)
 
 -- "first prefix not 0; a prefix twice; run ids not strictly falling in a tree; a run id or L0 view id twice anywhere; ..
--- a mark above 1"
-unfoldable pub treesMisshapen : LentTrees → Bool
-treesMisshapen t =
-    let ts = treesOf t in
-    not
-    (treesAtCapacity t
-    && firstIsRoot ts
+-- a mark above 1" are bad
+unfoldable pub goodTrees : List Tree → Bool
+goodTrees ts =
+    firstIsRoot ts
     && distinct eqb (map (λ x. x .prefix) ts)
     && all (λ x. fallingIds (x .runs)) ts
     && distinct eqb (map (λ r. r .id) (runsOf ts))
     && distinct sameUlid (map (λ v. v .view) (l0Of ts))
-    && all goodMarks ts)
+    && all goodMarks ts
+
+unfoldable pub treesMisshapen : LentTrees → Bool
+treesMisshapen t = not (treesAtCapacity t && goodTrees (treesOf t))
 
 unfoldable pub goodSources : List Source → Bool
 goodSources ss = all (λ s. isMark (s .mark)) ss
@@ -95,11 +95,12 @@ goodSources ss = all (λ s. isMark (s .mark)) ss
 unfoldable pub goodJob : Job → Bool
 goodJob j = leb (j .status) 5 && isMark (j .drain) && goodSources (j .sources)
 
--- "job ids not strictly rising; status above 5 or a mark above 1"
+-- "job ids not strictly rising; status above 5 or a mark above 1" are bad
+unfoldable pub goodJobs : List Job → Bool
+goodJobs js = linked (λ a b. ulidBelow (a .id) (b .id)) js && all goodJob js
+
 unfoldable pub jobsMisshapen : LentJobs → Bool
-jobsMisshapen j =
-    let js = jobsOf j in
-    not (jobsAtCapacity j && linked (λ a b. ulidBelow (a .id) (b .id)) js && all goodJob js)
+jobsMisshapen j = not (jobsAtCapacity j && goodJobs (jobsOf j))
 
 -- the three slices of a spec or a job that is lent by itself: "lent lengths disagree" where they are not n, n and 2n long
 abbrev pub lengthsAgree : List ℕ → List ℕ → List ℕ → Bool

@@ -1,0 +1,113 @@
+-- What a table that is not refused 1 or 2 is known to be: within its bounds, and lent at its capacity.
+use Prim.Native.Nat.{ℕ, _*_, _≤_, _<_}
+use mathlib.Core.Path.{_≡_}
+use mathlib.Core.Bool.{Bool, true, false, _&&_, _||_}
+use native.Mathlib.Omega.{arith}
+use lib.Dec.{leb, ltb, eqb}
+use lib.ListN.{length}
+use borrow.Author.Tests.{eqb-true, eqb-false, ltb-false}
+use Rattle.rules.specs.Lent.{LentTrees, LentJobs, l0Used, runsUsed, sourcesUsed}
+use Rattle.rules.specs.Bounds.{maxTrees, maxL0, maxRuns, maxJobs, maxSources, treesOutside, jobsOutside, treesAtCapacity, jobsAtCapacity}
+use Rattle.rules.proofs.Lookups.{and-left, and-right, or-left, or-right}
+
+-- ---- within the bounds
+
+pub record TreesWithin (t : LentTrees) : Type 0 where
+  pub some : 0 < t .count
+  pub trees : t .count ≤ maxTrees
+  pub l0 : l0Used t ≤ maxL0
+  pub runs : runsUsed t ≤ maxRuns
+
+pub trees-within : (t : LentTrees) → treesOutside t ≡ false → TreesWithin t
+unfolding treesOutside
+trees-within t h =
+    let none = eqb (t .count) 0 in
+    let many = ltb maxTrees (t .count) in
+    let rows = ltb maxL0 (l0Used t) in
+    let runs = ltb maxRuns (runsUsed t) in
+    let first = or-left (none || many || rows) runs h in
+    let second = or-left (none || many) rows first in
+    let empty : t .count ≡ 0 → ⊥ = eqb-false (t .count) 0 (or-left none many second) in
+    record {
+      some = omega arith;
+      trees = ltb-false maxTrees (t .count) (or-right none many second);
+      l0 = ltb-false maxL0 (l0Used t) (or-right (none || many) rows first);
+      runs = ltb-false maxRuns (runsUsed t) (or-right (none || many || rows) runs h);
+    }
+
+pub record JobsWithin (j : LentJobs) : Type 0 where
+  pub jobs : j .count ≤ maxJobs
+  pub sources : sourcesUsed j ≤ maxSources
+
+pub jobs-within : (j : LentJobs) → jobsOutside j ≡ false → JobsWithin j
+unfolding jobsOutside
+jobs-within j h = record {
+  jobs = ltb-false maxJobs (j .count) (or-left (ltb maxJobs (j .count)) (ltb maxSources (sourcesUsed j)) h);
+  sources = ltb-false maxSources (sourcesUsed j) (or-right (ltb maxJobs (j .count)) (ltb maxSources (sourcesUsed j)) h);
+}
+
+-- ---- lent at capacity
+
+pub record TreesLent (t : LentTrees) : Type 0 where
+  pub trees : length (t .trees) ≡ 3 * maxTrees
+  pub watermarkMarks : length (t .watermarkMarks) ≡ 2 * maxTrees
+  pub watermarks : length (t .watermarks) ≡ 4 * maxTrees
+  pub l0Ids : length (t .l0Ids) ≡ 4 * maxL0
+  pub l0Sizes : length (t .l0Sizes) ≡ maxL0
+  pub runIds : length (t .runIds) ≡ maxRuns
+  pub runSizes : length (t .runSizes) ≡ maxRuns
+
+pub trees-lent : (t : LentTrees) → treesAtCapacity t ≡ true → TreesLent t
+unfolding treesAtCapacity
+trees-lent t h =
+    let a = eqb (length (t .trees)) (3 * maxTrees) in
+    let b = eqb (length (t .watermarkMarks)) (2 * maxTrees) in
+    let c = eqb (length (t .watermarks)) (4 * maxTrees) in
+    let d = eqb (length (t .l0Ids)) (4 * maxL0) in
+    let e = eqb (length (t .l0Sizes)) maxL0 in
+    let f = eqb (length (t .runIds)) maxRuns in
+    let g = eqb (length (t .runSizes)) maxRuns in
+    let upF = and-left (a && b && c && d && e && f) g h in
+    let upE = and-left (a && b && c && d && e) f upF in
+    let upD = and-left (a && b && c && d) e upE in
+    let upC = and-left (a && b && c) d upD in
+    let upB = and-left (a && b) c upC in
+    record {
+      trees = eqb-true (length (t .trees)) (3 * maxTrees) (and-left a b upB);
+      watermarkMarks = eqb-true (length (t .watermarkMarks)) (2 * maxTrees) (and-right a b upB);
+      watermarks = eqb-true (length (t .watermarks)) (4 * maxTrees) (and-right (a && b) c upC);
+      l0Ids = eqb-true (length (t .l0Ids)) (4 * maxL0) (and-right (a && b && c) d upD);
+      l0Sizes = eqb-true (length (t .l0Sizes)) maxL0 (and-right (a && b && c && d) e upE);
+      runIds = eqb-true (length (t .runIds)) maxRuns (and-right (a && b && c && d && e) f upF);
+      runSizes = eqb-true (length (t .runSizes)) maxRuns (and-right (a && b && c && d && e && f) g h);
+    }
+
+pub record JobsLent (j : LentJobs) : Type 0 where
+  pub jobIds : length (j .jobIds) ≡ 2 * maxJobs
+  pub jobMarks : length (j .jobMarks) ≡ 2 * maxJobs
+  pub jobSpecs : length (j .jobSpecs) ≡ 3 * maxJobs
+  pub sourceMarks : length (j .sourceMarks) ≡ maxSources
+  pub sourceRuns : length (j .sourceRuns) ≡ maxSources
+  pub sourceViews : length (j .sourceViews) ≡ 2 * maxSources
+
+pub jobs-lent : (j : LentJobs) → jobsAtCapacity j ≡ true → JobsLent j
+unfolding jobsAtCapacity
+jobs-lent j h =
+    let a = eqb (length (j .jobIds)) (2 * maxJobs) in
+    let b = eqb (length (j .jobMarks)) (2 * maxJobs) in
+    let c = eqb (length (j .jobSpecs)) (3 * maxJobs) in
+    let d = eqb (length (j .sourceMarks)) maxSources in
+    let e = eqb (length (j .sourceRuns)) maxSources in
+    let f = eqb (length (j .sourceViews)) (2 * maxSources) in
+    let upE = and-left (a && b && c && d && e) f h in
+    let upD = and-left (a && b && c && d) e upE in
+    let upC = and-left (a && b && c) d upD in
+    let upB = and-left (a && b) c upC in
+    record {
+      jobIds = eqb-true (length (j .jobIds)) (2 * maxJobs) (and-left a b upB);
+      jobMarks = eqb-true (length (j .jobMarks)) (2 * maxJobs) (and-right a b upB);
+      jobSpecs = eqb-true (length (j .jobSpecs)) (3 * maxJobs) (and-right (a && b) c upC);
+      sourceMarks = eqb-true (length (j .sourceMarks)) maxSources (and-right (a && b && c) d upD);
+      sourceRuns = eqb-true (length (j .sourceRuns)) maxSources (and-right (a && b && c && d) e upE);
+      sourceViews = eqb-true (length (j .sourceViews)) (2 * maxSources) (and-right (a && b && c && d && e) f h);
+    }
