@@ -10,3 +10,4 @@ pub mod Gap
 pub mod Lift
 pub mod Shapes
 pub mod Falls
+pub mod Finds

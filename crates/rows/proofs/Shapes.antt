@@ -76,22 +76,23 @@ module _ (t : LentTrees) where
 
 -- ---- jobs
 
+-- the marks of one job's sources
+pub source-marks : (marks runs views : List ℕ) (s n : ℕ) → goodSources (rowsFrom (sourceAt marks runs views) s n) ≡ all isMark (rowsFrom (λ k. getD marks k 0) s n)
+unfolding goodSources
+source-marks marks runs views s n = sym (all-map (λ (x : Source). x .mark) isMark (rowsFrom (sourceAt marks runs views) s n)) ∙ ap (all isMark) (map-rowsFrom (λ (x : Source). x .mark) (sourceAt marks runs views) s n)
+
+-- two tests of one job, two of the later ones
+shuffled : (a b c d : Bool) → a && b && (c && d) ≡ a && c && (b && d)
+shuffled false b c d = refl
+shuffled true false false d = refl
+shuffled true false true d = refl
+shuffled true true c d = refl
+
 module _ (j : LentJobs) where
   ids-are : (i s n : ℕ) → map (λ (x : Job). x .id) (jobsFrom j i s n) ≡ rowsFrom (λ k. ulidAt (j .jobIds) (2 * k)) i n
   unfolding jobsFrom rowsFrom
   ids-are i s zero = refl
   ids-are i s (suc n) = ap (λ (l : List Ulid). ulidAt (j .jobIds) (2 * i) ∷ l) (ids-are (i + 1) (s + sourceCount j i) n)
-
-  -- the marks of one job's sources
-  pub source-marks : (marks runs views : List ℕ) (s n : ℕ) → goodSources (rowsFrom (sourceAt marks runs views) s n) ≡ all isMark (rowsFrom (λ k. getD marks k 0) s n)
-  unfolding goodSources
-  source-marks marks runs views s n = sym (all-map (λ (x : Source). x .mark) isMark (rowsFrom (sourceAt marks runs views) s n)) ∙ ap (all isMark) (map-rowsFrom (λ (x : Source). x .mark) (sourceAt marks runs views) s n)
-
-  shuffled : (a b c d : Bool) → a && b && (c && d) ≡ a && c && (b && d)
-  shuffled false b c d = refl
-  shuffled true false false d = refl
-  shuffled true false true d = refl
-  shuffled true true c d = refl
 
   jobs-good : (i s n : ℕ) → all goodJob (jobsFrom j i s n) ≡ all (goodMarksAt (j .jobMarks)) (rowsFrom (λ k. k) i n) && all isMark (rowsFrom (λ k. getD (j .sourceMarks) k 0) s (total (rowsFrom (sourceCount j) i n)))
   unfolding jobsFrom rowsFrom all goodJob total
