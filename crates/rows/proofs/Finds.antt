@@ -1,7 +1,6 @@
 -- A loop that looks for the first row with p: at row i none of those from row a on has it.
-use Prim.Native.Nat.{ℕ, suc, _+_, _-_, _≤_, _<_}
-use mathlib.Core.Path.{_≡_, refl, sym, ap, _∙_}
-use mathlib.Core.List.{List, [], _∷_}
+use Prim.Native.Nat.{ℕ, _+_, _-_, _≤_, _<_}
+use mathlib.Core.Path.{_≡_, ap, _∙_}
 use mathlib.Core.Bool.{Bool, true, false, not}
 use native.Mathlib.Nat.{sub-zero, zero-add}
 use native.Mathlib.Omega.{arith}

@@ -1,11 +1,9 @@
 -- A loop over rows that are to stand in r to the next one: what row i says.
-use Prim.Native.Nat.{ℕ, _+_, _-_, _≤_, _<_}
+use Prim.Native.Nat.{ℕ, _+_, _<_}
 use mathlib.Core.Path.{_≡_}
-use mathlib.Core.List.{List, [], _∷_}
 use mathlib.Core.Bool.{Bool, true, false}
 use native.Mathlib.Omega.{arith}
 use Rattle.rules.specs.Lists.{linked}
-use Rattle.rules.specs.Lent.{rowsFrom}
 use Rattle.rules.proofs.Rows.{rows-next, rows-end}
 use Rattle.rows.proofs.Scans.{Left, scan-next, scan-stops}
 

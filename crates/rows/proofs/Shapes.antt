@@ -4,12 +4,12 @@ use mathlib.Core.Path.{_≡_, refl, sym, ap, _∙_}
 use mathlib.Core.List.{List, [], _∷_, _++_, map}
 use mathlib.Core.Bool.{Bool, true, false, _&&_, and-assoc}
 use native.Mathlib.Nat.{one-mul, lt-irrefl}
-use lib.Dec.{eqb, ltb, leb}
+use lib.Dec.{eqb, ltb}
 use lib.ListN.{getD}
-use Rattle.rules.specs.Lists.{all, linked, distinct, concatMap, total}
-use Rattle.rules.specs.Tables.{Ulid, sameUlid, ulidBelow, L0Row, Run, Tree, Source, Job}
+use Rattle.rules.specs.Lists.{all, linked, distinct, total}
+use Rattle.rules.specs.Tables.{Ulid, sameUlid, ulidBelow, L0Row, Run, Source, Job}
 use Rattle.rules.specs.Lent.{LentTrees, LentJobs, rowsFrom, ulidAt, l0At, runAt, sourceAt, l0Count, runCount, sourceCount, treesFrom, treesOf, jobsFrom, jobsOf, l0Used, runsUsed, l0Of, runsOf}
-use Rattle.rules.specs.Bounds.{isMark, firstIsRoot, fallingIds, goodMarks, goodTrees, goodSources, goodJob, goodJobs}
+use Rattle.rules.specs.Bounds.{isMark, firstIsRoot, fallingIds, goodTrees, goodSources, goodJob, goodJobs}
 use Rattle.rules.proofs.Rows.{rowsFrom-same, rowsFrom-append, map-rowsFrom}
 use Rattle.rules.proofs.Packed.{l0-first, runs-first, prefixes, marks}
 use Rattle.rows.specs.Shape.{fallingFrom, goodMarksAt, flatTrees, flatJobs}

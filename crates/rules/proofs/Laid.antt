@@ -1,9 +1,9 @@
 -- A slice after a call (`laid`): its length, its front, and that laying what stood there changes nothing.
-use Prim.Native.Nat.{ℕ, _+_, _-_, _≤_, max}
-use mathlib.Core.Path.{_≡_, refl, sym, ap, _∙_}
-use mathlib.Core.List.{List, _++_}
+use Prim.Native.Nat.{ℕ, _-_, _≤_, max}
+use mathlib.Core.Path.{_≡_}
+use mathlib.Core.List.{List}
 use native.Mathlib.Omega.{arith}
-use lib.ListN.{length, take, drop, replicate, length-append, length-drop, length-replicate, take-append-drop}
+use lib.ListN.{length, take, length-append, length-drop, length-replicate, take-append-drop}
 use lib.Seq.{length-take-le}
 use Rattle.rules.specs.Lent.{laid}
 

@@ -1,5 +1,5 @@
 -- Tests over lists (`any`, `all`, `linked`, `distinct`) at each entry, and look-ups (`firstWith`) in lists of distinct ids.
-use Prim.Native.Nat.{ℕ, zero, suc, _<_, suc-le-suc}
+use Prim.Native.Nat.{ℕ, zero, suc, _≤_, _<_, suc-le-suc}
 use mathlib.Core.Path.{_≡_, refl, sym, ap, _∙_}
 use mathlib.Core.List.{List, [], _∷_, map}
 use mathlib.Core.Bool.{Bool, true, false, cond, _&&_, _||_, not, true≢false, false≢true}
@@ -8,7 +8,7 @@ use native.Mathlib.Nat.{le-of-suc-le-suc, not-suc-le-zero, zero-lt-suc}
 use lib.ListN.{length, getD, length-map, List·getD-map}
 use lib.Dec.{eqb}
 use borrow.Author.Tests.{eqb-true, eq-eqb, not-true}
-use Rattle.rules.specs.Lists.{any, all, firstWith, linked, distinct}
+use Rattle.rules.specs.Lists.{any, all, firstWith, leading, linked, distinct}
 use Rattle.rules.specs.Tables.{Ulid, sameUlid}
 use Rattle.rules.proofs.Records.{ulid-eq}
 
@@ -108,6 +108,26 @@ module _ {A : Type 0} where
       go : (b : Bool) → p y ≡ b → cond b (some y) (firstWith p ys) ≡ some x → (firstWith p ys ≡ some x → p x ≡ true) → p x ≡ true
       go true e h later = let same : y ≡ x = cc in rw (← same) e
       go false e h later = later h
+
+  -- what a scan finds: so many entries before the first with p
+  pub leading-found : (p : A → Bool) (d : A) (xs : List A) → leading (λ x. not (p x)) xs < length xs → firstWith p xs ≡ some (getD xs (leading (λ x. not (p x)) xs) d)
+  unfolding leading firstWith
+  leading-found p d [] h = absurd (not-suc-le-zero h)
+  leading-found p d (x ∷ xs) h = go (p x) h (leading-found p d xs)
+    where
+      go : (b : Bool) → cond (not b) (suc (leading (λ x. not (p x)) xs)) 0 < suc (length xs) → (leading (λ x. not (p x)) xs < length xs → firstWith p xs ≡ some (getD xs (leading (λ x. not (p x)) xs) d))
+          → cond b (some x) (firstWith p xs) ≡ some (getD (x ∷ xs) (cond (not b) (suc (leading (λ x. not (p x)) xs)) 0) d)
+      go true h later = refl
+      go false h later = later (le-of-suc-le-suc h)
+
+  pub leading-none : (p : A → Bool) (xs : List A) → length xs ≤ leading (λ x. not (p x)) xs → firstWith p xs ≡ none
+  unfolding leading firstWith
+  leading-none p [] h = refl
+  leading-none p (x ∷ xs) h = go (p x) h (leading-none p xs)
+    where
+      go : (b : Bool) → suc (length xs) ≤ cond (not b) (suc (leading (λ x. not (p x)) xs)) 0 → (length xs ≤ leading (λ x. not (p x)) xs → firstWith p xs ≡ none) → cond b (some x) (firstWith p xs) ≡ none
+      go true h later = absurd (not-suc-le-zero h)
+      go false h later = later (le-of-suc-le-suc h)
 
 -- ---- lists of distinct ids: an entry with the id is THE entry with the id
 

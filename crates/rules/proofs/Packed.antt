@@ -1,14 +1,16 @@
 -- "Rows stand packed from the front": the rows of all trees, and of all jobs, are the first rows of their slices, and the
 -- sums of the counts are how many there are.
-use Prim.Native.Nat.{ℕ, zero, suc, _+_, _*_}
+use Prim.Native.Nat.{ℕ, zero, suc, _+_, _*_, _<_}
 use mathlib.Core.Path.{_≡_, refl, sym, ap, _∙_}
-use mathlib.Core.List.{List, [], _∷_, _++_, map}
-use mathlib.Core.Bool.{Bool, _&&_, and-assoc}
+use mathlib.Core.List.{List, _∷_, _++_, map}
+use mathlib.Core.Bool.{and-assoc}
+use native.Mathlib.Nat.{le-of-suc-le-suc, not-suc-le-zero, zero-add, add-zero, add-assoc}
+use native.Mathlib.Numerals.{one-add}
 use native.Mathlib.Omega.{arith}
 use lib.ListN.{length, getD}
 use Rattle.rules.specs.Lists.{all, concatMap, total}
 use Rattle.rules.specs.Tables.{L0Row, Run, Tree, Source, Job}
-use Rattle.rules.specs.Lent.{LentTrees, LentJobs, rowsFrom, treesFrom, treesOf, jobsFrom, jobsOf, l0At, runAt, sourceAt, l0Count, runCount, sourceCount, l0Used, runsUsed, sourcesUsed, l0Of, runsOf, sourcesOf}
+use Rattle.rules.specs.Lent.{LentTrees, LentJobs, rowsFrom, treeAt, treesFrom, treesOf, jobAt, jobsFrom, jobsOf, l0At, runAt, sourceAt, l0Count, runCount, sourceCount, l0Used, runsUsed, sourcesUsed, l0Of, runsOf, sourcesOf}
 use Rattle.rules.specs.Bounds.{isMark, goodMarks}
 use Rattle.rules.proofs.Rows.{length-rowsFrom, rowsFrom-append}
 
@@ -51,6 +53,19 @@ module _ (t : LentTrees) where
   pub length-runs : length (runsOf (treesOf t)) ≡ runsUsed t
   length-runs = ap length runs-first ∙ length-rowsFrom (runAt t) 0 (runsUsed t)
 
+  -- tree i: its rows start after those of the trees before it
+  tree-from : (i l r n k : ℕ) (d : Tree) → k < n → getD (treesFrom t i l r n) k d ≡ treeAt t (i + k) (l + total (rowsFrom (l0Count t) i k)) (r + total (rowsFrom (runCount t) i k))
+  unfolding treesFrom rowsFrom total
+  tree-from i l r zero k d h = absurd (not-suc-le-zero h)
+  tree-from i l r (suc n) zero d h = rw (add-zero, add-zero, add-zero)
+  tree-from i l r (suc n) (suc k) d h =
+      tree-from (i + 1) (l + l0Count t i) (r + runCount t i) n k d (le-of-suc-le-suc h)
+      ∙ rw (add-assoc l, add-assoc r, add-assoc i, one-add)
+
+  pub tree-is : (i : ℕ) (d : Tree) → i < t .count → getD (treesOf t) i d ≡ treeAt t i (total (rowsFrom (l0Count t) 0 i)) (total (rowsFrom (runCount t) 0 i))
+  unfolding treesOf
+  tree-is i d h = rw (zero-add, zero-add, zero-add) at (tree-from 0 0 0 (t .count) i d h)
+
   -- the prefixes of the trees, and the marks of their watermarks
   pub prefixes : (i l r n : ℕ) → map (λ x. x .prefix) (treesFrom t i l r n) ≡ rowsFrom (λ k. getD (t .trees) (3 * k) 0) i n
   unfolding treesFrom rowsFrom
@@ -89,6 +104,18 @@ module _ (j : LentJobs) where
   pub sources-first : sourcesOf (jobsOf j) ≡ rowsFrom sourceIn 0 (sourcesUsed j)
   unfolding jobsOf sourcesUsed
   sources-first = sources-packed 0 0 (j .count)
+
+  -- job i: its source entries start after those of the jobs before it
+  job-from : (i s n k : ℕ) (d : Job) → k < n → getD (jobsFrom j i s n) k d ≡ jobAt j (i + k) (s + total (rowsFrom (sourceCount j) i k))
+  unfolding jobsFrom rowsFrom total
+  job-from i s zero k d h = absurd (not-suc-le-zero h)
+  job-from i s (suc n) zero d h = rw (add-zero, add-zero)
+  job-from i s (suc n) (suc k) d h =
+      job-from (i + 1) (s + sourceCount j i) n k d (le-of-suc-le-suc h) ∙ rw (add-assoc s, add-assoc i, one-add)
+
+  pub job-is : (i : ℕ) (d : Job) → i < j .count → getD (jobsOf j) i d ≡ jobAt j i (total (rowsFrom (sourceCount j) 0 i))
+  unfolding jobsOf
+  job-is i d h = rw (zero-add, zero-add) at (job-from 0 0 (j .count) i d h)
 
   pub length-sources : length (sourcesOf (jobsOf j)) ≡ sourcesUsed j
   length-sources = ap length sources-first ∙ length-rowsFrom sourceIn 0 (sourcesUsed j)

@@ -5,10 +5,10 @@ use mathlib.Core.List.{List, [], _∷_, _++_, map, append-assoc}
 use native.Mathlib.Nat.{le-of-suc-le-suc, not-suc-le-zero}
 use native.Mathlib.Omega.{arith}
 use lib.Dec.{lit<}
-use lib.ListN.{length, getD, length-append, length-map, List·getD-append, List·getD-map}
+use lib.ListN.{length, getD, length-append, List·getD-append}
 use lib.Seq.{getD-append-add, getD-append-seam}
 use Rattle.rules.specs.Lists.{concatMap}
-use Rattle.rules.specs.Tables.{Ulid, Watermark, L0Row, Run, Tree, Source, Job}
+use Rattle.rules.specs.Tables.{L0Row, Run, Tree, Source, Job}
 use Rattle.rules.specs.Lent.{LentTrees, LentJobs, rowsFrom, ulidAt, l0At, runAt, watermarkAt, sourceAt, l0Count, runCount, sourceCount, treesFrom, treesOf, jobsFrom, jobsOf, laid, ulidWords, treeWords, watermarkMarkWords, watermarkWords, l0Words, jobMarkWords, jobSpecWords, l0Of, runsOf, sourcesOf, layTrees, layJobs}
 use Rattle.rules.proofs.Records.{ulid-eq, l0-eq, run-eq, watermark-eq, tree-eq, source-eq, job-eq}
 use Rattle.rules.proofs.Rows.{rows-are, number-at, concatMap-append}

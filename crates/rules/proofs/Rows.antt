@@ -6,7 +6,7 @@ use native.Mathlib.Nat.{le-of-suc-le-suc, not-suc-le-zero, zero-add, add-zero, s
 use native.Mathlib.Omega.{arith}
 use lib.ListN.{length, getD, take, drop, length-append, List·getD-append}
 use lib.Seq.{getD-append-add, drop-drop, take-add}
-use Rattle.rules.specs.Lists.{concatMap, total}
+use Rattle.rules.specs.Lists.{concatMap}
 use Rattle.rules.specs.Lent.{rowsFrom}
 
 -- ---- reading

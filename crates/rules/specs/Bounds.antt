@@ -5,7 +5,7 @@ use mathlib.Core.Bool.{Bool, false, _&&_, _||_, not}
 use lib.Dec.{leb, ltb, eqb}
 use lib.ListN.{length}
 use Rattle.rules.specs.Lists.{all, linked, distinct, _given_else_}
-use Rattle.rules.specs.Tables.{Ulid, sameUlid, ulidBelow, Watermark, L0Row, Run, Tree, Source, Job}
+use Rattle.rules.specs.Tables.{sameUlid, ulidBelow, Run, Tree, Source, Job}
 use Rattle.rules.specs.Lent.{LentTrees, LentJobs, treesOf, jobsOf, l0Used, runsUsed, sourcesUsed, l0Of, runsOf}
 
 -- "1 to 32 trees; 512 L0 rows and 512 runs over all trees; 64 jobs; 1,024 source entries over all jobs; .. at most 64

@@ -3,17 +3,16 @@
 use Prim.Native.Nat.{ℕ, _+_, _-_, _^_}
 use mathlib.Core.Path.{_≡_, refl}
 use mathlib.Core.List.{List, [], _∷_}
-use mathlib.Core.Bool.{true, false}
 use mathlib.Core.Option.{Option, some, none}
 use lib.Ieee.{Float, binary32, ofBits, ofInt, mul, toUnsigned}
 use Rattle.rules.specs.declared.Options.{Options}
 use Rattle.rules.specs.Lists.{any, all, keep, firstWith, leading, concatMap, total, oneAbove}
-use Rattle.rules.specs.Tables.{Ulid, Watermark, L0Row, Run, Tree, Source, Job, SourceId, sortedRun, sstView}
+use Rattle.rules.specs.Tables.{Ulid, L0Row, Run, Tree, Source, Job, SourceId, sortedRun, sstView}
 use Rattle.rules.specs.Limit.{limitOf}
 use Rattle.rules.specs.Chain.{chain, joined, heldBack}
 use Rattle.rules.specs.Windows.{usedIds, passes, last, beginningPasses, upTo, lasting, eligible, greatest, window}
 use Rattle.rules.specs.Pick.{Spec, takesRows, pick, ownFirst, ownList}
-use Rattle.rules.specs.Plan.{Plan, firstFresh, freeSlots, placed, ordered, ask, pass, passesFrom, planned, ownListOf}
+use Rattle.rules.specs.Plan.{firstFresh, freeSlots, placed, ordered, ask, pass, passesFrom, planned, ownListOf}
 use Rattle.rules.specs.Jobs.{adopts}
 use Rattle.rules.specs.Finish.{absent, withOutput, finishTree}
 

@@ -80,17 +80,19 @@ l0Count t i = getD (t .trees) (3 * i + 1) 0
 abbrev pub runCount : LentTrees → ℕ → ℕ
 runCount t i = getD (t .trees) (3 * i + 2) 0
 
--- the n trees from tree i on, whose L0 rows begin at row l and whose runs at row r
+-- tree i, whose L0 rows begin at row l and whose runs at row r
+abbrev pub treeAt : LentTrees → ℕ → ℕ → ℕ → Tree
+treeAt t i l r = record {
+  prefix = getD (t .trees) (3 * i) 0;
+  watermark = watermarkAt t i;
+  l0 = rowsFrom (l0At t) l (l0Count t i);
+  runs = rowsFrom (runAt t) r (runCount t i);
+}
+
+-- the n trees from tree i on
 unfoldable pub treesFrom : LentTrees → ℕ → ℕ → ℕ → ℕ → List Tree
 treesFrom t i l r zero = []
-treesFrom t i l r (suc n) =
-    record {
-      prefix = getD (t .trees) (3 * i) 0;
-      watermark = watermarkAt t i;
-      l0 = rowsFrom (l0At t) l (l0Count t i);
-      runs = rowsFrom (runAt t) r (runCount t i);
-    }
-    ∷ treesFrom t (i + 1) (l + l0Count t i) (r + runCount t i) n
+treesFrom t i l r (suc n) = treeAt t i l r ∷ treesFrom t (i + 1) (l + l0Count t i) (r + runCount t i) n
 
 unfoldable pub treesOf : LentTrees → List Tree
 treesOf t = treesFrom t 0 0 0 (t .count)
@@ -102,19 +104,21 @@ sourceAt marks runs views i = record { mark = getD marks i 0; run = getD runs i 
 abbrev pub sourceCount : LentJobs → ℕ → ℕ
 sourceCount j i = getD (j .jobSpecs) (3 * i + 2) 0
 
--- the n jobs from job i on, whose source entries begin at row s
+-- job i, whose source entries begin at row s
+abbrev pub jobAt : LentJobs → ℕ → ℕ → Job
+jobAt j i s = record {
+  id = ulidAt (j .jobIds) (2 * i);
+  status = getD (j .jobMarks) (2 * i) 0;
+  drain = getD (j .jobMarks) (2 * i + 1) 0;
+  prefix = getD (j .jobSpecs) (3 * i) 0;
+  destination = getD (j .jobSpecs) (3 * i + 1) 0;
+  sources = rowsFrom (sourceAt (j .sourceMarks) (j .sourceRuns) (j .sourceViews)) s (sourceCount j i);
+}
+
+-- the n jobs from job i on
 unfoldable pub jobsFrom : LentJobs → ℕ → ℕ → ℕ → List Job
 jobsFrom j i s zero = []
-jobsFrom j i s (suc n) =
-    record {
-      id = ulidAt (j .jobIds) (2 * i);
-      status = getD (j .jobMarks) (2 * i) 0;
-      drain = getD (j .jobMarks) (2 * i + 1) 0;
-      prefix = getD (j .jobSpecs) (3 * i) 0;
-      destination = getD (j .jobSpecs) (3 * i + 1) 0;
-      sources = rowsFrom (sourceAt (j .sourceMarks) (j .sourceRuns) (j .sourceViews)) s (sourceCount j i);
-    }
-    ∷ jobsFrom j (i + 1) (s + sourceCount j i) n
+jobsFrom j i s (suc n) = jobAt j i s ∷ jobsFrom j (i + 1) (s + sourceCount j i) n
 
 unfoldable pub jobsOf : LentJobs → List Job
 jobsOf j = jobsFrom j 0 0 (j .count)

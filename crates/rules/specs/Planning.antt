@@ -6,7 +6,7 @@ use lib.Dec.{leb, ltb}
 use lib.ListN.{length}
 use Rattle.rules.specs.declared.Options.{Options}
 use Rattle.rules.specs.Lists.{any, concatMap, total, _given_else_}
-use Rattle.rules.specs.Tables.{Ulid, SourceId, sortedRun, sstView, Tree}
+use Rattle.rules.specs.Tables.{SourceId, sortedRun, sstView, Tree}
 use Rattle.rules.specs.Lent.{LentTrees, LentJobs, treesOf, jobsOf, l0Used, runsUsed, laid, ulidWords}
 use Rattle.rules.specs.Bounds.{maxConcurrent, treesOutside, jobsOutside, treesMisshapen, jobsMisshapen}
 use Rattle.rules.specs.Pick.{Spec, sizesOf, l0SizesOf}

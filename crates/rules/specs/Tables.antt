@@ -2,7 +2,7 @@
 -- record copies its idle parts as they stand.
 use Prim.Native.Nat.{ℕ}
 use mathlib.Core.List.{List}
-use mathlib.Core.Bool.{Bool, true, false, cond, _&&_, _||_}
+use mathlib.Core.Bool.{Bool, false, cond, _&&_, _||_}
 use lib.Dec.{eqb, ltb, leb}
 use Rattle.rules.specs.Lists.{any}
 

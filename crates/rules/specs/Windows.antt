@@ -6,7 +6,7 @@ use mathlib.Core.Bool.{Bool, true, cond, _&&_, not}
 use lib.Dec.{leb, eqb}
 use lib.ListN.{length, take, drop}
 use Rattle.rules.specs.Lists.{all, keep, concatMap, total}
-use Rattle.rules.specs.Tables.{SourceId, sortedRun, Job, among, idOf, active, isDrain}
+use Rattle.rules.specs.Tables.{SourceId, sortedRun, Job, idOf, active, isDrain}
 use Rattle.rules.specs.Chain.{chain, heldBack}
 
 -- "every source of its active jobs, and the destinations of its tiered ones, as run ids": of one job

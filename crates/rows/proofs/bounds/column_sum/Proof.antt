@@ -1,15 +1,12 @@
--- `rows::bounds::column_sum` meets its contract. Assumes nothing.
+-- `column_sum` meets its contract: the invariant is that the sum so far and the sum of the rows left are the sum of all (`Summed`); a row adds less than
+-- 2^32.
 use borrow.Author.Needs.{needs}
-use Prim.Native.Nat.{ℕ, _+_, _-_, _*_, _≤_}
+use Prim.Native.Nat.{_+_, _-_, _*_, _≤_}
 use mathlib.Core.Path.{_∙_}
 use lib.ListN.{getD}
 use Rattle.rows.proofs.Sums.{Summed, sum-starts, sum-next, sum-ends}
 use Rattle.rows.proofs.bounds.column_sum.Statement.{statement}
 use Rattle.rows.proofs.bounds.column_sum.Tie as tie
-use Rattle.rows.proofs.bounds.column_sum.Reads as reads
-use Rattle.rows.proofs.bounds.column_sum.Lts as lts
-use Rattle.rows.proofs.bounds.number_at.Reads as number-at-reads
-use Rattle.rows.proofs.bounds.wide.Reads as wide-reads
 
 abbrev Inv-loop : tie.InvT-loop
 Inv-loop s k n sum₀ i₀ sum i = (i ≤ n) × (sum ≤ 4294967295 * i) × Summed (λ j. getD s (3 * j + k) 0) n sum i
@@ -17,43 +14,33 @@ Inv-loop s k n sum₀ i₀ sum i = (i ≤ n) × (sum ≤ 4294967295 * i) × Summ
 abbrev μ-loop : tie.MeasureT-loop
 μ-loop s k n sum₀ i₀ sum i = n - i
 
--- src/bounds.rt:34:5
 loop-holds : tie.Need-loop-holds Inv-loop μ-loop
 loop-holds c = (search needs, search needs, sum-starts _ _)
 
--- src/bounds.rt:35:34
 mul-number-at : tie.Need-mul-number-at Inv-loop μ-loop
 mul-number-at c = search needs
 
--- src/bounds.rt:35:34
 add-number-at : tie.Need-add-number-at Inv-loop μ-loop
 add-number-at c = search needs
 
--- src/bounds.rt:35:21
 number-at-requires : tie.Need-number-at-requires Inv-loop μ-loop
 number-at-requires c κs = search needs
 
--- src/bounds.rt:35:16
 wide-requires : tie.Need-wide-requires Inv-loop μ-loop
 wide-requires c κs = search needs
 
--- src/bounds.rt:35:9
 add-sum : tie.Need-add-sum Inv-loop μ-loop
 add-sum c = search needs
 
--- src/bounds.rt:36:9
 add-i : tie.Need-add-i Inv-loop μ-loop
 add-i c = search needs
 
--- src/bounds.rt:34:5
 loop-less : tie.Need-loop-less Inv-loop μ-loop
 loop-less c = search needs
 
--- src/bounds.rt:34:5
 loop-again : tie.Need-loop-again Inv-loop μ-loop
 loop-again c = (search needs, search needs, sum-next _ _ _ _ _ (c .before .before .loop-test .taken) (c .wide .ensures ∙ c .before .number-at .ensures) (c .before .before .before .loop .inv .2))
 
--- src/bounds.rt:28:1
 returns : tie.Need-returns Inv-loop μ-loop
 returns c = sum-ends _ _ _ _ (c .loop-test .left) (c .before .loop .inv .2)
 

@@ -1,25 +1,19 @@
--- `rows::bounds::number_at` meets its contract. Assumes nothing.
+-- `number_at` meets its contract: past the end `getD` answers its default, 0.
 use mathlib.Core.Path.{sym}
 use lib.ListN.{List·getD-eq-default}
 use borrow.Author.Needs.{needs}
 use Rattle.rows.proofs.bounds.number_at.Statement.{statement}
 use Rattle.rows.proofs.bounds.number_at.Tie as tie
-use Rattle.rows.proofs.bounds.number_at.Reads as reads
-use Rattle.rows.proofs.bounds.number_at.Lts as lts
 
--- src/bounds.rt:16:16
 mul-result : tie.Need-mul-result
 mul-result c = search needs
 
--- src/bounds.rt:16:16
 shared-slice-read-result : tie.Need-shared-slice-read-result
 shared-slice-read-result c = search needs
 
--- src/bounds.rt:16:9
 returns : tie.Need-returns
 returns c = search needs
 
--- src/bounds.rt:12:1
 returns-2 : tie.Need-returns-2
 returns-2 c = sym (List·getD-eq-default (c .before .args .s .now) 0 (c .if1 .left))
 

@@ -1,40 +1,29 @@
--- `rows::bounds::trees_outside` meets its contract. Assumes nothing.
-use mathlib.Core.Path.{sym}
-use mathlib.Core.Bool.{or-true}
+-- `trees_outside` meets its contract: each return settles one part of `treesOutside`, in its order.
 use borrow.Author.Tests.{eq-eqb, ne-eqb, lt-ltb, le-ltb}
 use Rattle.rules.specs.Lent.{l0Used, runsUsed}
 use Rattle.rules.specs.Bounds.{treesOutside}
 use borrow.Author.Needs.{needs}
 use Rattle.rows.proofs.bounds.trees_outside.Statement.{statement}
 use Rattle.rows.proofs.bounds.trees_outside.Tie as tie
-use Rattle.rows.proofs.bounds.trees_outside.Reads as reads
-use Rattle.rows.proofs.bounds.trees_outside.Lts as lts
-use Rattle.rows.proofs.bounds.column_sum.Reads as column-sum-reads
 
--- src/bounds.rt:45:9
 returns : tie.Need-returns
 unfolding treesOutside
 returns c = λ t n s. rw (n, eq-eqb _ _ (c .if1 .taken))
 
--- src/bounds.rt:48:9
 returns-2 : tie.Need-returns-2
 unfolding treesOutside
 returns-2 c = λ t n s. rw (n, ne-eqb _ _ (c .before .if1 .left), lt-ltb _ _ (c .if2 .taken))
 
--- src/bounds.rt:50:26
 column-sum-requires : tie.Need-column-sum-requires
 column-sum-requires c κs = search needs
 
--- src/bounds.rt:51:9
 returns-3 : tie.Need-returns-3
 unfolding treesOutside l0Used
 returns-3 c = λ t n s. rw (n, s, ne-eqb _ _ (c .before .before .before .if1 .left), le-ltb _ _ (c .before .before .if2 .left), ← c .before .column-sum .ensures, lt-ltb _ _ (c .if3 .taken))
 
--- src/bounds.rt:53:25
 column-sum-requires-2 : tie.Need-column-sum-requires-2
 column-sum-requires-2 c κs = search needs
 
--- src/bounds.rt:41:1
 returns-4 : tie.Need-returns-4
 unfolding treesOutside l0Used runsUsed
 returns-4 c = λ t n s. rw (n, s, ne-eqb _ _ (c .before .before .before .before .if1 .left), le-ltb _ _ (c .before .before .before .if2 .left), ← c .before .before .column-sum .ensures, le-ltb _ _ (c .before .if3 .left), ← c .column-sum2 .ensures)

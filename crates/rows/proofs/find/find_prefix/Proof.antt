@@ -1,9 +1,9 @@
--- `rows::find::find_prefix` meets its contract. Assumes nothing.
+-- `find_prefix` meets its contract: the invariant is that none of the rows so far has the id (`Sought`).
 use borrow.Author.Needs.{needs}
 use borrow.Author.Tests.{eq-eqb, ne-eqb}
 use mathlib.Core.Path.{sym, _∙_}
 use mathlib.Core.Bool.{not}
-use Prim.Native.Nat.{ℕ, _-_, _*_}
+use Prim.Native.Nat.{_-_, _*_}
 use native.Mathlib.Nat.{sub-zero}
 use lib.Dec.{eqb}
 use lib.ListN.{getD}
@@ -12,8 +12,6 @@ use Rattle.rules.specs.Lent.{rowsFrom}
 use Rattle.rows.proofs.Finds.{Sought, seek-starts, seek-on, seek-found, seek-ends}
 use Rattle.rows.proofs.find.find_prefix.Statement.{statement}
 use Rattle.rows.proofs.find.find_prefix.Tie as tie
-use Rattle.rows.proofs.find.find_prefix.Reads as reads
-use Rattle.rows.proofs.find.find_prefix.Lts as lts
 
 abbrev Inv-loop : tie.InvT-loop
 Inv-loop trees n prefix i₀ i = Sought (λ p. eqb p prefix) (λ k. getD trees (3 * k) 0) n 0 i (leading (λ p. not (eqb p prefix)) (rowsFrom (λ k. getD trees (3 * k) 0) 0 n))
@@ -21,39 +19,30 @@ Inv-loop trees n prefix i₀ i = Sought (λ p. eqb p prefix) (λ k. getD trees (
 abbrev μ-loop : tie.MeasureT-loop
 μ-loop trees n prefix i₀ i = n - i
 
--- src/find.rt:19:5
 loop-holds : tie.Need-loop-holds Inv-loop μ-loop
 loop-holds c = seek-starts
 
--- src/find.rt:20:18
 mul-if1 : tie.Need-mul-if1 Inv-loop μ-loop
 mul-if1 c = search needs
 
--- src/find.rt:20:12
 mul-if1-2 : tie.Need-mul-if1-2 Inv-loop μ-loop
 mul-if1-2 c = search needs
 
--- src/find.rt:20:12
 shared-slice-read-if1 : tie.Need-shared-slice-read-if1 Inv-loop μ-loop
 shared-slice-read-if1 c = search needs
 
--- src/find.rt:21:13
 returns : tie.Need-returns Inv-loop μ-loop
 returns c = sym (sub-zero (c .before .before .before .loop .i)) ∙ seek-found (c .before .before .before .loop .inv) (c .before .before .loop-test .taken) (eq-eqb _ _ (c .if1 .taken))
 
--- src/find.rt:23:9
 add-i : tie.Need-add-i Inv-loop μ-loop
 add-i c = search needs
 
--- src/find.rt:19:5
 loop-less : tie.Need-loop-less Inv-loop μ-loop
 loop-less c = search needs
 
--- src/find.rt:19:5
 loop-again : tie.Need-loop-again Inv-loop μ-loop
 loop-again c = seek-on (c .before .before .before .loop .inv) (c .before .before .loop-test .taken) (ne-eqb _ _ (c .if1 .left))
 
--- src/find.rt:14:1
 returns-2 : tie.Need-returns-2 Inv-loop μ-loop
 returns-2 c = sym (sub-zero (c .before .loop .i)) ∙ seek-ends (c .before .loop .inv) (c .loop-test .left)
 

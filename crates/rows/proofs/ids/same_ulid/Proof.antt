@@ -1,15 +1,11 @@
--- `rows::ids::same_ulid` meets its contract. Assumes nothing.
+-- `same_ulid` meets its contract: the high words decide, then the low ones.
 use borrow.Author.Tests.{eq-eqb, ne-eqb}
 use Rattle.rows.proofs.ids.same_ulid.Statement.{statement}
 use Rattle.rows.proofs.ids.same_ulid.Tie as tie
-use Rattle.rows.proofs.ids.same_ulid.Reads as reads
-use Rattle.rows.proofs.ids.same_ulid.Lts as lts
 
--- src/ids.rt:9:9
 returns : tie.Need-returns
 returns c = rw (eq-eqb _ _ (c .if1 .taken))
 
--- src/ids.rt:5:1
 returns-2 : tie.Need-returns-2
 returns-2 c = rw (ne-eqb _ _ (c .if1 .left))
 

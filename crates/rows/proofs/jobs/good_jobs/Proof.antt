@@ -1,44 +1,31 @@
--- `rows::jobs::good_jobs` meets its contract. Assumes nothing.
+-- `good_jobs` meets its contract: each return settles one part of `flatJobs`, in its order.
 use borrow.Author.Needs.{needs}
 use borrow.Author.Tests.{not-true, not-false}
 use mathlib.Core.Path.{sym, _∙_}
 use Rattle.rows.specs.Shape.{flatJobs}
 use Rattle.rows.proofs.jobs.good_jobs.Statement.{statement}
 use Rattle.rows.proofs.jobs.good_jobs.Tie as tie
-use Rattle.rows.proofs.jobs.good_jobs.Reads as reads
-use Rattle.rows.proofs.jobs.good_jobs.Lts as lts
-use Rattle.rows.proofs.bounds.column_sum.Reads as column-sum-reads
-use Rattle.rows.proofs.jobs.job_marks_good.Reads as job-marks-good-reads
-use Rattle.rows.proofs.shape.marks_good.Reads as marks-good-reads
-use Rattle.rows.proofs.shape.rising.Reads as rising-reads
 
--- src/jobs.rt:68:9
 rising-requires : tie.Need-rising-requires
 rising-requires c κs = search needs
 
--- src/jobs.rt:69:9
 returns : tie.Need-returns
 unfolding flatJobs
 returns c = rw (sym (c .before .rising .ensures) ∙ not-true _ (c .if1 .taken))
 
--- src/jobs.rt:71:9
 job-marks-good-requires : tie.Need-job-marks-good-requires
 job-marks-good-requires c κs = search needs
 
--- src/jobs.rt:72:9
 returns-2 : tie.Need-returns-2
 unfolding flatJobs
 returns-2 c = rw (sym (c .before .before .before .rising .ensures) ∙ not-false _ (c .before .before .if1 .left), sym (c .before .job-marks-good .ensures) ∙ not-true _ (c .if2 .taken))
 
--- src/jobs.rt:74:30
 column-sum-requires : tie.Need-column-sum-requires
 column-sum-requires c κs = search needs
 
--- src/jobs.rt:74:5
 marks-good-requires : tie.Need-marks-good-requires
 marks-good-requires c κs = search needs
 
--- src/jobs.rt:64:1
 returns-3 : tie.Need-returns-3
 unfolding flatJobs
 returns-3 c = rw (sym (c .before .before .before .before .before .rising .ensures) ∙ not-false _ (c .before .before .before .before .if1 .left), sym (c .before .before .before .job-marks-good .ensures) ∙ not-false _ (c .before .before .if2 .left), ← c .before .column-sum .ensures) (c .marks-good .ensures)

@@ -1,16 +1,13 @@
--- `rows::jobs::job_marks_good` meets its contract. Assumes nothing.
+-- `job_marks_good` meets its contract: the invariant is that the test of the jobs left is the test of all (`Left`).
 use borrow.Author.Needs.{needs}
 use borrow.Author.Tests.{le-leb, lt-leb}
-use mathlib.Core.Bool.{_&&_, and-false}
-use Prim.Native.Nat.{ℕ, _-_, _≤_}
+use Prim.Native.Nat.{_-_}
 use Rattle.rules.specs.Lists.{all}
 use Rattle.rules.specs.Lent.{rowsFrom}
 use Rattle.rows.specs.Shape.{goodMarksAt}
 use Rattle.rows.proofs.Scans.{Left, scan-starts, scan-next, scan-stops, scan-ends}
 use Rattle.rows.proofs.jobs.job_marks_good.Statement.{statement}
 use Rattle.rows.proofs.jobs.job_marks_good.Tie as tie
-use Rattle.rows.proofs.jobs.job_marks_good.Reads as reads
-use Rattle.rows.proofs.jobs.job_marks_good.Lts as lts
 
 abbrev Inv-loop : tie.InvT-loop
 Inv-loop job-marks n i₀ i = Left (all (goodMarksAt job-marks)) (λ k. k) n i (all (goodMarksAt job-marks) (rowsFrom (λ k. k) 0 n))
@@ -18,54 +15,42 @@ Inv-loop job-marks n i₀ i = Left (all (goodMarksAt job-marks)) (λ k. k) n i (
 abbrev μ-loop : tie.MeasureT-loop
 μ-loop job-marks n i₀ i = n - i
 
--- src/jobs.rt:22:5
 loop-holds : tie.Need-loop-holds Inv-loop μ-loop
 loop-holds c = scan-starts
 
--- src/jobs.rt:23:22
 mul-if1 : tie.Need-mul-if1 Inv-loop μ-loop
 mul-if1 c = search needs
 
--- src/jobs.rt:23:12
 shared-slice-read-if1 : tie.Need-shared-slice-read-if1 Inv-loop μ-loop
 shared-slice-read-if1 c = search needs
 
--- src/jobs.rt:24:13
 returns : tie.Need-returns Inv-loop μ-loop
 unfolding all
 returns c = scan-stops (c .before .before .before .loop .inv) (c .before .before .loop-test .taken) (rw (lt-leb _ _ (c .if1 .taken)))
 
--- src/jobs.rt:26:22
 mul-if2 : tie.Need-mul-if2 Inv-loop μ-loop
 mul-if2 c = search needs
 
--- src/jobs.rt:26:22
 add-if2 : tie.Need-add-if2 Inv-loop μ-loop
 add-if2 c = search needs
 
--- src/jobs.rt:26:12
 shared-slice-read-if2 : tie.Need-shared-slice-read-if2 Inv-loop μ-loop
 shared-slice-read-if2 c = search needs
 
--- src/jobs.rt:27:13
 returns-2 : tie.Need-returns-2 Inv-loop μ-loop
 unfolding all
 returns-2 c = scan-stops (c .before .before .before .before .before .loop .inv) (c .before .before .before .before .loop-test .taken) (rw (le-leb _ _ (c .before .before .if1 .left), lt-leb _ _ (c .if2 .taken)))
 
--- src/jobs.rt:29:9
 add-i : tie.Need-add-i Inv-loop μ-loop
 add-i c = search needs
 
--- src/jobs.rt:22:5
 loop-less : tie.Need-loop-less Inv-loop μ-loop
 loop-less c = search needs
 
--- src/jobs.rt:22:5
 loop-again : tie.Need-loop-again Inv-loop μ-loop
 unfolding all
 loop-again c = scan-next (c .before .before .before .before .before .loop .inv) (c .before .before .before .before .loop-test .taken) (rw (le-leb _ _ (c .before .before .if1 .left), le-leb _ _ (c .if2 .left)))
 
--- src/jobs.rt:17:1
 returns-3 : tie.Need-returns-3 Inv-loop μ-loop
 unfolding all
 returns-3 c = scan-ends (c .before .loop .inv) (c .loop-test .left)

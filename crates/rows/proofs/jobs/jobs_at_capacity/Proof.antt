@@ -1,54 +1,42 @@
--- `rows::jobs::jobs_at_capacity` meets its contract. Assumes nothing.
+-- `jobs_at_capacity` meets its contract: each return settles one length, in the order of `jobsAtCapacity`.
 use borrow.Author.Tests.{eq-eqb, ne-eqb}
 use Rattle.rules.specs.Bounds.{jobsAtCapacity}
 use borrow.Author.Needs.{needs}
 use Rattle.rows.proofs.jobs.jobs_at_capacity.Statement.{statement}
 use Rattle.rows.proofs.jobs.jobs_at_capacity.Tie as tie
-use Rattle.rows.proofs.jobs.jobs_at_capacity.Reads as reads
-use Rattle.rows.proofs.jobs.jobs_at_capacity.Lts as lts
 
--- src/jobs.rt:45:25
 mul-if1 : tie.Need-mul-if1
 mul-if1 c = search needs
 
--- src/jobs.rt:46:9
 returns : tie.Need-returns
 unfolding jobsAtCapacity
 returns c = λ count. rw (ne-eqb _ _ (c .if1 .taken))
 
--- src/jobs.rt:48:27
 mul-if2 : tie.Need-mul-if2
 mul-if2 c = search needs
 
--- src/jobs.rt:49:9
 returns-2 : tie.Need-returns-2
 unfolding jobsAtCapacity
 returns-2 c = λ count. rw (eq-eqb _ _ (c .before .if1 .left), ne-eqb _ _ (c .if2 .taken))
 
--- src/jobs.rt:51:27
 mul-if3 : tie.Need-mul-if3
 mul-if3 c = search needs
 
--- src/jobs.rt:52:9
 returns-3 : tie.Need-returns-3
 unfolding jobsAtCapacity
 returns-3 c = λ count. rw (eq-eqb _ _ (c .before .before .if1 .left), eq-eqb _ _ (c .before .if2 .left), ne-eqb _ _ (c .if3 .taken))
 
--- src/jobs.rt:55:9
 returns-4 : tie.Need-returns-4
 unfolding jobsAtCapacity
 returns-4 c = λ count. rw (eq-eqb _ _ (c .before .before .before .if1 .left), eq-eqb _ _ (c .before .before .if2 .left), eq-eqb _ _ (c .before .if3 .left), ne-eqb _ _ (c .if4 .taken))
 
--- src/jobs.rt:58:9
 returns-5 : tie.Need-returns-5
 unfolding jobsAtCapacity
 returns-5 c = λ count. rw (eq-eqb _ _ (c .before .before .before .before .if1 .left), eq-eqb _ _ (c .before .before .before .if2 .left), eq-eqb _ _ (c .before .before .if3 .left), eq-eqb _ _ (c .before .if4 .left), ne-eqb _ _ (c .if5 .taken))
 
--- src/jobs.rt:60:27
 mul-result : tie.Need-mul-result
 mul-result c = search needs
 
--- src/jobs.rt:35:1
 returns-6 : tie.Need-returns-6
 unfolding jobsAtCapacity
 returns-6 c = λ count. rw (eq-eqb _ _ (c .before .before .before .before .if1 .left), eq-eqb _ _ (c .before .before .before .if2 .left), eq-eqb _ _ (c .before .before .if3 .left), eq-eqb _ _ (c .before .if4 .left), eq-eqb _ _ (c .if5 .left))

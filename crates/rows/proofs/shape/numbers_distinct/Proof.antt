@@ -1,7 +1,7 @@
--- `rows::shape::numbers_distinct` meets its contract. Assumes nothing.
+-- `numbers_distinct` meets its contract: the invariant is that the rows left are distinct exactly if all are (`Left`).
 use borrow.Author.Needs.{needs}
 use mathlib.Core.Path.{sym, _∙_}
-use Prim.Native.Nat.{ℕ, _+_, _-_, _*_, _≤_}
+use Prim.Native.Nat.{_-_, _*_}
 use native.Mathlib.Omega.{arith}
 use lib.Dec.{eqb}
 use lib.ListN.{getD}
@@ -11,9 +11,6 @@ use Rattle.rows.proofs.Scans.{Left, scan-starts, scan-next, scan-stops,
 use Rattle.rows.proofs.Width.{row-within}
 use Rattle.rows.proofs.shape.numbers_distinct.Statement.{statement}
 use Rattle.rows.proofs.shape.numbers_distinct.Tie as tie
-use Rattle.rows.proofs.shape.numbers_distinct.Reads as reads
-use Rattle.rows.proofs.shape.numbers_distinct.Lts as lts
-use Rattle.rows.proofs.shape.number_from.Reads as number-from-reads
 
 abbrev Inv-loop : tie.InvT-loop
 Inv-loop s w n i₀ i = Left (distinct eqb) (λ k. getD s (w * k) 0) n i (distinct eqb (rowsFrom (λ k. getD s (w * k) 0) 0 n))
@@ -21,49 +18,38 @@ Inv-loop s w n i₀ i = Left (distinct eqb) (λ k. getD s (w * k) 0) n i (distin
 abbrev μ-loop : tie.MeasureT-loop
 μ-loop s w n i₀ i = n - i
 
--- src/shape.rt:49:5
 loop-holds : tie.Need-loop-holds Inv-loop μ-loop
 loop-holds c = scan-starts
 
--- src/shape.rt:50:30
 add-number-from : tie.Need-add-number-from Inv-loop μ-loop
 add-number-from c = search needs
 
--- src/shape.rt:50:42
 mul-number-from : tie.Need-mul-number-from Inv-loop μ-loop
 mul-number-from c = omega (arith, row-within (c .before .before .before .args .w) (c .before .loop .i) (c .before .before .before .args .n) (c .before .before .before .pre .0) (c .loop-test .taken))
 
--- src/shape.rt:50:40
 mul-number-from-2 : tie.Need-mul-number-from-2 Inv-loop μ-loop
 mul-number-from-2 c = omega (arith, row-within (c .before .before .before .args .w) (c .before .loop .i) (c .before .before .before .args .n) (c .before .before .before .pre .0) (c .loop-test .taken))
 
--- src/shape.rt:50:40
 shared-slice-read-number-from : tie.Need-shared-slice-read-number-from Inv-loop μ-loop
 shared-slice-read-number-from c = omega (arith, row-within (c .before .before .before .before .args .w) (c .before .before .loop .i) (c .before .before .before .before .args .n) (c .before .before .before .before .pre .0) (c .before .loop-test .taken))
 
--- src/shape.rt:50:12
 number-from-requires : tie.Need-number-from-requires Inv-loop μ-loop
 number-from-requires c κs = search needs
 
--- src/shape.rt:51:13
 returns : tie.Need-returns Inv-loop μ-loop
 unfolding distinct
 returns c = scan-stops (c .before .before .before .before .loop .inv) (c .before .before .before .loop-test .taken) (rw (sym (c .before .number-from .ensures) ∙ c .if1 .taken))
 
--- src/shape.rt:53:9
 add-i : tie.Need-add-i Inv-loop μ-loop
 add-i c = search needs
 
--- src/shape.rt:49:5
 loop-less : tie.Need-loop-less Inv-loop μ-loop
 loop-less c = search needs
 
--- src/shape.rt:49:5
 loop-again : tie.Need-loop-again Inv-loop μ-loop
 unfolding distinct
 loop-again c = scan-next (c .before .before .before .before .loop .inv) (c .before .before .before .loop-test .taken) (rw (sym (c .before .number-from .ensures) ∙ c .if1 .left))
 
--- src/shape.rt:44:1
 returns-2 : tie.Need-returns-2 Inv-loop μ-loop
 unfolding distinct
 returns-2 c = scan-ends (c .before .loop .inv) (c .loop-test .left)

@@ -1,16 +1,13 @@
--- `rows::shape::view_from` meets its contract. Assumes nothing.
+-- `view_from` meets its contract: the invariant is that the test of the rows left is the test of all (`Left`).
 use borrow.Author.Needs.{needs}
 use mathlib.Core.Path.{sym, _∙_}
-use Prim.Native.Nat.{ℕ, _-_, _*_}
+use Prim.Native.Nat.{_-_, _*_}
 use Rattle.rules.specs.Lists.{any}
-use Rattle.rules.specs.Tables.{Ulid, sameUlid}
+use Rattle.rules.specs.Tables.{sameUlid}
 use Rattle.rules.specs.Lent.{rowsFrom, ulidAt}
 use Rattle.rows.proofs.Scans.{Left, scan-starts-at, scan-next, scan-stops, scan-ends}
 use Rattle.rows.proofs.shape.view_from.Statement.{statement}
 use Rattle.rows.proofs.shape.view_from.Tie as tie
-use Rattle.rows.proofs.shape.view_from.Reads as reads
-use Rattle.rows.proofs.shape.view_from.Lts as lts
-use Rattle.rows.proofs.ids.same_ulid.Reads as same-ulid-reads
 
 abbrev Inv-loop : tie.InvT-loop
 Inv-loop l0-ids from n high low i₀ i = Left (any (sameUlid (record { high = high; low = low }))) (λ k. ulidAt l0-ids (4 * k)) n i (any (sameUlid (record { high = high; low = low })) (rowsFrom (λ k. ulidAt l0-ids (4 * k)) from (n - from)))
@@ -18,61 +15,47 @@ Inv-loop l0-ids from n high low i₀ i = Left (any (sameUlid (record { high = hi
 abbrev μ-loop : tie.MeasureT-loop
 μ-loop l0-ids from n high low i₀ i = n - i
 
--- src/shape.rt:64:5
 loop-holds : tie.Need-loop-holds Inv-loop μ-loop
 loop-holds c = scan-starts-at
 
--- src/shape.rt:65:40
 mul-same-ulid : tie.Need-mul-same-ulid Inv-loop μ-loop
 mul-same-ulid c = search needs
 
--- src/shape.rt:65:33
 mul-same-ulid-2 : tie.Need-mul-same-ulid-2 Inv-loop μ-loop
 mul-same-ulid-2 c = search needs
 
--- src/shape.rt:65:33
 shared-slice-read-same-ulid : tie.Need-shared-slice-read-same-ulid Inv-loop μ-loop
 shared-slice-read-same-ulid c = search needs
 
--- src/shape.rt:65:55
 mul-same-ulid-3 : tie.Need-mul-same-ulid-3 Inv-loop μ-loop
 mul-same-ulid-3 c = search needs
 
--- src/shape.rt:65:55
 add-same-ulid : tie.Need-add-same-ulid Inv-loop μ-loop
 add-same-ulid c = search needs
 
--- src/shape.rt:65:48
 mul-same-ulid-4 : tie.Need-mul-same-ulid-4 Inv-loop μ-loop
 mul-same-ulid-4 c = search needs
 
--- src/shape.rt:65:48
 shared-slice-read-same-ulid-2 : tie.Need-shared-slice-read-same-ulid-2 Inv-loop μ-loop
 shared-slice-read-same-ulid-2 c = search needs
 
--- src/shape.rt:65:12
 same-ulid-requires : tie.Need-same-ulid-requires Inv-loop μ-loop
 same-ulid-requires c κs = search needs
 
--- src/shape.rt:66:13
 returns : tie.Need-returns Inv-loop μ-loop
 unfolding any
 returns c = scan-stops (c .before .before .before .before .before .loop .inv) (c .before .before .before .before .loop-test .taken) (rw (sym (c .before .same-ulid .ensures) ∙ c .if1 .taken))
 
--- src/shape.rt:68:9
 add-i : tie.Need-add-i Inv-loop μ-loop
 add-i c = search needs
 
--- src/shape.rt:64:5
 loop-less : tie.Need-loop-less Inv-loop μ-loop
 loop-less c = search needs
 
--- src/shape.rt:64:5
 loop-again : tie.Need-loop-again Inv-loop μ-loop
 unfolding any
 loop-again c = scan-next (c .before .before .before .before .before .loop .inv) (c .before .before .before .before .loop-test .taken) (rw (sym (c .before .same-ulid .ensures) ∙ c .if1 .left))
 
--- src/shape.rt:59:1
 returns-2 : tie.Need-returns-2 Inv-loop μ-loop
 unfolding any
 returns-2 c = scan-ends (c .before .loop .inv) (c .loop-test .left)

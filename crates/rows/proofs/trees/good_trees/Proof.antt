@@ -1,80 +1,58 @@
--- `rows::trees::good_trees` meets its contract. Assumes nothing.
+-- `good_trees` meets its contract: each return settles one part of `flatTrees`, in its order.
 use borrow.Author.Needs.{needs}
 use borrow.Author.Tests.{eq-eqb, ne-eqb, not-true, not-false}
 use mathlib.Core.Path.{sym, _∙_}
 use Rattle.rows.specs.Shape.{flatTrees}
 use Rattle.rows.proofs.trees.good_trees.Statement.{statement}
 use Rattle.rows.proofs.trees.good_trees.Tie as tie
-use Rattle.rows.proofs.trees.good_trees.Reads as reads
-use Rattle.rows.proofs.trees.good_trees.Lts as lts
-use Rattle.rows.proofs.bounds.column_sum.Reads as column-sum-reads
-use Rattle.rows.proofs.shape.marks_good.Reads as marks-good-reads
-use Rattle.rows.proofs.shape.numbers_distinct.Reads as numbers-distinct-reads
-use Rattle.rows.proofs.shape.views_distinct.Reads as views-distinct-reads
-use Rattle.rows.proofs.trees.all_falling.Reads as all-falling-reads
 
--- src/trees.rt:71:8
 shared-slice-read-if1 : tie.Need-shared-slice-read-if1
 shared-slice-read-if1 c = search needs
 
--- src/trees.rt:72:9
 returns : tie.Need-returns
 unfolding flatTrees
 returns c = rw (ne-eqb _ _ (c .if1 .taken))
 
--- src/trees.rt:74:9
 numbers-distinct-requires : tie.Need-numbers-distinct-requires
 numbers-distinct-requires c κs = search needs
 
--- src/trees.rt:75:9
 returns-2 : tie.Need-returns-2
 unfolding flatTrees
 returns-2 c = rw (eq-eqb _ _ (c .before .before .if1 .left), sym (c .before .numbers-distinct .ensures) ∙ not-true _ (c .if2 .taken))
 
--- src/trees.rt:77:9
 all-falling-requires : tie.Need-all-falling-requires
 all-falling-requires c κs = search needs
 
--- src/trees.rt:78:9
 returns-3 : tie.Need-returns-3
 unfolding flatTrees
 returns-3 c = rw (eq-eqb _ _ (c .before .before .before .before .if1 .left), sym (c .before .before .before .numbers-distinct .ensures) ∙ not-false _ (c .before .before .if2 .left), sym (c .before .all-falling .ensures) ∙ not-true _ (c .if3 .taken))
 
--- src/trees.rt:80:38
 column-sum-requires : tie.Need-column-sum-requires
 column-sum-requires c κs = search needs
 
--- src/trees.rt:80:9
 numbers-distinct-requires-2 : tie.Need-numbers-distinct-requires-2
 numbers-distinct-requires-2 c κs = search needs
 
--- src/trees.rt:81:9
 returns-4 : tie.Need-returns-4
 unfolding flatTrees
 returns-4 c = rw (eq-eqb _ _ (c .before .before .before .before .before .before .before .if1 .left), sym (c .before .before .before .before .before .before .numbers-distinct .ensures) ∙ not-false _ (c .before .before .before .before .before .if2 .left), sym (c .before .before .before .before .all-falling .ensures) ∙ not-false _ (c .before .before .before .if3 .left), ← c .before .before .column-sum .ensures, sym (c .before .numbers-distinct2 .ensures) ∙ not-true _ (c .if4 .taken))
 
--- src/trees.rt:83:32
 column-sum-requires-2 : tie.Need-column-sum-requires-2
 column-sum-requires-2 c κs = search needs
 
--- src/trees.rt:83:9
 views-distinct-requires : tie.Need-views-distinct-requires
 views-distinct-requires c κs = search needs
 
--- src/trees.rt:84:9
 returns-5 : tie.Need-returns-5
 unfolding flatTrees
 returns-5 c = rw (eq-eqb _ _ (c .before .before .before .before .before .before .before .before .before .before .if1 .left), sym (c .before .before .before .before .before .before .before .before .before .numbers-distinct .ensures) ∙ not-false _ (c .before .before .before .before .before .before .before .before .if2 .left), sym (c .before .before .before .before .before .before .before .all-falling .ensures) ∙ not-false _ (c .before .before .before .before .before .before .if3 .left), ← c .before .before .before .before .before .column-sum .ensures, sym (c .before .before .before .before .numbers-distinct2 .ensures) ∙ not-false _ (c .before .before .before .if4 .left), ← c .before .before .column-sum2 .ensures, sym (c .before .views-distinct .ensures) ∙ not-true _ (c .if5 .taken))
 
--- src/trees.rt:86:33
 mul-marks-good : tie.Need-mul-marks-good
 mul-marks-good c = search needs
 
--- src/trees.rt:86:5
 marks-good-requires : tie.Need-marks-good-requires
 marks-good-requires c κs = search needs
 
--- src/trees.rt:66:1
 returns-6 : tie.Need-returns-6
 unfolding flatTrees
 returns-6 c = rw (eq-eqb _ _ (c .before .before .before .before .before .before .before .before .before .before .before .if1 .left), sym (c .before .before .before .before .before .before .before .before .before .before .numbers-distinct .ensures) ∙ not-false _ (c .before .before .before .before .before .before .before .before .before .if2 .left), sym (c .before .before .before .before .before .before .before .before .all-falling .ensures) ∙ not-false _ (c .before .before .before .before .before .before .before .if3 .left), ← c .before .before .before .before .before .before .column-sum .ensures, sym (c .before .before .before .before .before .numbers-distinct2 .ensures) ∙ not-false _ (c .before .before .before .before .if4 .left), ← c .before .before .before .column-sum2 .ensures, sym (c .before .before .views-distinct .ensures) ∙ not-false _ (c .before .if5 .left)) (c .marks-good .ensures)

@@ -1,19 +1,13 @@
--- `rows::trees::trees_refusal` meets its contract. Assumes nothing.
+-- `trees_refusal` meets its contract: 1, then 2, as `treesRefusal` has them; the rules on trees are read off the slices by `flat-trees`.
 use borrow.Author.Needs.{needs}
 use borrow.Author.Tests.{not-true, not-false}
-use mathlib.Core.Path.{_≡_, refl, sym, _∙_}
-use mathlib.Core.Bool.{true, false}
-use Rattle.rules.specs.Lent.{LentTrees, lentTrees, treesOf, l0Used, runsUsed}
-use Rattle.rules.specs.Bounds.{treesOutside, treesAtCapacity, goodTrees, treesMisshapen, treesRefusal}
-use Rattle.rules.proofs.Bounds.{TreesWithin, trees-within, TreesLent, trees-lent}
+use mathlib.Core.Path.{refl, sym, _∙_}
+use Rattle.rules.specs.Lent.{LentTrees, lentTrees, l0Used, runsUsed}
+use Rattle.rules.specs.Bounds.{treesMisshapen, treesRefusal}
+use Rattle.rules.proofs.Bounds.{trees-within, trees-lent}
 use Rattle.rows.proofs.Shapes.{flat-trees}
 use Rattle.rows.proofs.trees.trees_refusal.Statement.{statement}
 use Rattle.rows.proofs.trees.trees_refusal.Tie as tie
-use Rattle.rows.proofs.trees.trees_refusal.Reads as reads
-use Rattle.rows.proofs.trees.trees_refusal.Lts as lts
-use Rattle.rows.proofs.bounds.trees_outside.Reads as trees-outside-reads
-use Rattle.rows.proofs.trees.good_trees.Reads as good-trees-reads
-use Rattle.rows.proofs.trees.trees_at_capacity.Reads as trees-at-capacity-reads
 
 -- the trees as they are lent
 abbrev lent : tie.Start → LentTrees
@@ -28,25 +22,20 @@ lent c =
     (c .args .run-ids .now)
     (c .args .run-sizes .now)
 
--- src/trees.rt:102:8
 trees-outside-requires : tie.Need-trees-outside-requires
 trees-outside-requires c κs = search needs
 
--- src/trees.rt:103:9
 returns : tie.Need-returns
 unfolding treesRefusal
 returns c = rw (sym (c .before .trees-outside .ensures (lent (c .before .before .before .before .before .before .before .before .before)) refl refl) ∙ c .if1 .taken)
 
--- src/trees.rt:105:9
 trees-at-capacity-requires : tie.Need-trees-at-capacity-requires
 trees-at-capacity-requires c κs = search needs
 
--- src/trees.rt:106:9
 returns-2 : tie.Need-returns-2
 unfolding treesRefusal treesMisshapen
 returns-2 c = rw (sym (c .before .before .before .trees-outside .ensures (lent (c .before .before .before .before .before .before .before .before .before .before .before)) refl refl) ∙ c .before .before .if1 .left, sym (c .before .trees-at-capacity .ensures (c .before .before .before .before .before .before .before .before .before .before .before .args .count)) ∙ not-true _ (c .if2 .taken))
 
--- src/trees.rt:108:8
 good-trees-requires : tie.Need-good-trees-requires
 unfolding l0Used runsUsed
 good-trees-requires c κs =
@@ -54,14 +43,12 @@ good-trees-requires c κs =
     let f = trees-lent (lent (c .before .before .before .before .before .before .before .before .before .before .before)) (sym (c .before .trees-at-capacity .ensures (c .before .before .before .before .before .before .before .before .before .before .before .args .count)) ∙ not-false _ (c .if2 .left)) in
     ((w .some, w .trees, f .trees, f .watermarkMarks, f .l0Ids, f .runIds), (w .l0, w .runs))
 
--- src/trees.rt:109:9
 returns-3 : tie.Need-returns-3
 unfolding treesRefusal treesMisshapen
 returns-3 c =
     let within = sym (c .before .before .before .before .before .trees-outside .ensures (lent (c .before .before .before .before .before .before .before .before .before .before .before .before .before)) refl refl) ∙ c .before .before .before .before .if1 .left in
     rw (within, sym (c .before .before .before .trees-at-capacity .ensures (c .before .before .before .before .before .before .before .before .before .before .before .before .before .args .count)) ∙ not-false _ (c .before .before .if2 .left), flat-trees (lent (c .before .before .before .before .before .before .before .before .before .before .before .before .before)) (trees-within (lent (c .before .before .before .before .before .before .before .before .before .before .before .before .before)) within .some) ∙ sym (c .before .good-trees .ensures) ∙ c .if3 .taken)
 
--- src/trees.rt:90:1
 returns-4 : tie.Need-returns-4
 unfolding treesRefusal treesMisshapen
 returns-4 c =
