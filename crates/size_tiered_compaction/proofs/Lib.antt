@@ -1,0 +1,2 @@
+-- Laws that the proofs of the planner cite.
+pub mod Chains
