@@ -1,2 +1,5 @@
 -- Laws that the proofs of the planner cite.
 pub mod Chains
+pub mod Filling
+pub mod ChainTable
+pub mod HoldingBack

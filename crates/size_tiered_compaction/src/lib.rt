@@ -1,2 +1,3 @@
-// slatedb's size-tiered planner over rows of lent tables: chains, holding back, used ids, windows.
+// slatedb's size-tiered planner over rows of lent tables: used ids, holding back, chains, windows.
+pub mod backpressure;
 pub mod run;
