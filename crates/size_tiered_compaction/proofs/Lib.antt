@@ -1,4 +1,5 @@
 -- Laws that the proofs of the planner cite.
+pub mod UsedIds
 pub mod Chains
 pub mod Filling
 pub mod ChainTable

@@ -1,2 +1,3 @@
 -- What the contracts of the planner cite beside document 01's definitions.
+pub mod Conflict
 pub mod Backpressure

@@ -2,7 +2,7 @@
 ghost use mathlib.Core.Path.{_≡_};
 ghost use mathlib.Core.List.{_++_};
 ghost use Prim.Native.Nat.{_≤_};
-ghost use lib.ListN.{length, take, drop};
+ghost use lib.ListN.{length, drop};
 ghost use Rattle.rules.specs.Limit.{limitOf};
 ghost use Rattle.rules.specs.Chain.{heldBack};
 ghost use Rattle.size_tiered_compaction.specs.Backpressure.{chainsOf, Chains};
