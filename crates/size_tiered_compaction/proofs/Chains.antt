@@ -1,11 +1,13 @@
 -- Chains, one run at a time, as a loop that is at run i meets them.
 use Prim.Native.Nat.{ℕ, suc, _+_, _-_, _≤_, _<_, min}
 use mathlib.Core.Path.{_≡_}
-use mathlib.Core.List.{List}
+use mathlib.Core.List.{List, [], _∷_}
+use mathlib.Core.Bool.{Bool, true, false, cond}
 use native.Mathlib.Numerals.{add-one}
 use native.Mathlib.Omega.{arith}
 use borrow.Author.Tests.{le-leb, lt-leb}
-use lib.ListN.{length, drop, getD, drop-of-length-le}
+use lib.Dec.{leb}
+use lib.ListN.{length, drop, getD, length-drop, drop-of-length-le}
 use lib.Seq.{drop-cons}
 use Rattle.rules.specs.Chain.{chain, joined}
 
@@ -56,3 +58,22 @@ module _ {lim : ℕ → ℕ} {sizes : List ℕ} {a least i : ℕ} (t : Taken lim
   chain-ends h =
       let ends : joined lim least (drop i sizes) ≡ 0 = rw (drop-of-length-le sizes h) in
       omega arith
+
+joined-within : (lim : ℕ → ℕ) (least : ℕ) (sizes : List ℕ) → joined lim least sizes ≤ length sizes
+unfolding joined
+joined-within lim least [] = omega arith
+joined-within lim least (x ∷ xs) = go (leb x (lim least)) (joined-within lim (min least x) xs)
+  where
+    go : (b : Bool) → joined lim (min least x) xs ≤ length xs → cond b (suc (joined lim (min least x) xs)) 0 ≤ suc (length xs)
+    go true h = omega arith
+    go false h = omega arith
+
+-- a chain has no more runs than there are
+chain-within : (lim : ℕ → ℕ) (sizes : List ℕ) → chain lim sizes ≤ length sizes
+unfolding chain
+chain-within lim [] = omega arith
+chain-within lim (x ∷ xs) = omega (arith, joined-within lim x xs)
+
+-- the chain from run a ends where the runs do, at the latest
+pub chain-fits : (lim : ℕ → ℕ) (sizes : List ℕ) (a : ℕ) → a ≤ length sizes → a + chain lim (drop a sizes) ≤ length sizes
+chain-fits lim sizes a h = omega (arith, chain-within lim (drop a sizes), length-drop a sizes)

@@ -2,7 +2,7 @@
 use Prim.Native.Nat.{ℕ, _+_, _*_, _<_}
 use mathlib.Core.Path.{_≡_, refl, sym, ap, ap₂, _∙_}
 use mathlib.Core.List.{List, [], _∷_, _++_, map}
-use mathlib.Core.Bool.{Bool, _&&_, _||_, and-false, or-assoc, and-or-distrib-left}
+use mathlib.Core.Bool.{_&&_, _||_, and-false, and-or-distrib-left}
 use native.Mathlib.Nat.{zero-add}
 use native.Mathlib.Omega.{arith}
 use lib.Dec.{eqb}
@@ -12,6 +12,7 @@ use Rattle.rules.specs.Lists.{any}
 use Rattle.rules.specs.Tables.{SourceId, sortedRun, sstView, sameId, among}
 use Rattle.rules.specs.Lent.{rowsFrom}
 use Rattle.rules.proofs.Rows.{rowsFrom-append, rowsFrom-same}
+use Rattle.size_tiered_compaction.proofs.Appended.{any-append}
 use Rattle.size_tiered_compaction.specs.Conflict.{Key, sameKey, keyOf, keyAt, keysOf, holds, usedIn, Added}
 
 module _ (s : List ℕ) (n p m h l : ℕ) (fits : 4 * n + 3 < length s) where
@@ -65,11 +66,6 @@ module _ (s : List ℕ) (n p m h l : ℕ) (fits : 4 * n + 3 < length s) where
   }
 
 -- ---- more keys
-
-any-append : (q : Key → Bool) (ks js : List Key) → any q (ks ++ js) ≡ any q ks || any q js
-unfolding any
-any-append q [] js = refl
-any-append q (k ∷ ks) js = rw (any-append q ks js) (sym (or-assoc (q k) (any q ks) (any q js)))
 
 -- "Specs picked in this call are added.": what was used, and what is added
 pub used-more : (ks js : List Key) (prefix : ℕ) (x : SourceId) → usedIn (ks ++ js) prefix x ≡ usedIn ks prefix x || usedIn js prefix x

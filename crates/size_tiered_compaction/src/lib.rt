@@ -1,4 +1,4 @@
-// slatedb's size-tiered planner over rows of lent tables: used ids, holding back, chains, windows.
+// slatedb's size-tiered planner over rows of lent tables: used ids, holding back, chains.
 pub mod backpressure;
 pub mod conflict;
 pub mod run;
