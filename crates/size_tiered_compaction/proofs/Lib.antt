@@ -7,3 +7,5 @@ pub mod ChainTable
 pub mod HoldingBack
 pub mod Greatest
 pub mod Beginnings
+pub mod LeastRun
+pub mod Clamped

@@ -2,3 +2,4 @@
 pub mod Conflict
 pub mod Backpressure
 pub mod TreeState
+pub mod Window
