@@ -1,0 +1,11 @@
+-- Laws that the proofs of the planner cite.
+pub mod Appended
+pub mod UsedIds
+pub mod Chains
+pub mod Filling
+pub mod ChainTable
+pub mod HoldingBack
+pub mod Greatest
+pub mod Beginnings
+pub mod LeastRun
+pub mod Clamped

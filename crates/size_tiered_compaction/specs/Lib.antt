@@ -1,0 +1,5 @@
+-- What the contracts of the planner cite beside document 01's definitions.
+pub mod Conflict
+pub mod Backpressure
+pub mod TreeState
+pub mod Window
