@@ -3,3 +3,4 @@ pub mod Conflict
 pub mod Backpressure
 pub mod TreeState
 pub mod Window
+pub mod Asked
