@@ -2,4 +2,5 @@
 pub mod backpressure;
 pub mod conflict;
 pub mod run;
+pub mod validate;
 pub mod window;

@@ -1,0 +1,105 @@
+// Validation of a spec: slatedb's validate, over a tree's rows as they lie in the lent slices.
+ghost use mathlib.Core.Path.{_≡_};
+ghost use mathlib.Core.List.{List, [], _∷_};
+ghost use Prim.Native.Nat.{ℕ, _+_, _-_, _*_, _≤_};
+ghost use lib.ListN.{length};
+ghost use Rattle.rules.specs.Tables.{Ulid, Source, sameId, idOf};
+ghost use Rattle.rules.specs.Lent.{rowsFrom};
+ghost use Rattle.rules.specs.Validation.{startsWith, consecutive, lowestRun, wrongDestination};
+ghost use Rattle.size_tiered_compaction.specs.Order.{orderAt, namedAt, lowestOf, joinedLow};
+use rows::ids::same_source;
+
+// Whether place `q` of "the tree's L0 then runs, as one list" is this source.
+fn same_at(l0_ids: &[u64], run_ids: &[u32], rows: usize, q: usize, mark: u8, run: u32, high: u64, low: u64) -> bool
+    requires { ⌜ (4 * rows ≤ length (now «l0_ids»)) × (q + 1 ≤ rows + length (now «run_ids»)) ⌝ }
+    ensures { λ r. ⌜ r ≡ sameId (orderAt (now («l0_ids» .entry)) (now («run_ids» .entry)) rows q) (idOf (record { mark = mark; run = run; view = record { high = high; low = low } })) ⌝ }
+{
+    if q < rows {
+        return same_source(0, 0, l0_ids[4 * q], l0_ids[4 * q + 1], mark, run, high, low);
+    }
+    same_source(1, run_ids[q - rows], 0, 0, mark, run, high, low)
+}
+
+// Whether the sources stand one after the other from place `p` on.
+fn starts_with(l0_ids: &[u64], run_ids: &[u32], rows: usize, p: usize, marks: &[u8], runs: &[u32], views: &[u64]) -> bool
+    requires { ⌜ (4 * rows ≤ length (now «l0_ids»)) × (p ≤ rows + length (now «run_ids»)) × (length (now runs) ≡ length (now marks)) × (length (now views) ≡ 2 * length (now marks)) ⌝ }
+    ensures { λ r. ⌜ r ≡ startsWith (rowsFrom (orderAt (now («l0_ids» .entry)) (now («run_ids» .entry)) rows) p (rows + length (now («run_ids» .entry)) - p)) (rowsFrom (namedAt (now (marks .entry)) (now (runs .entry)) (now (views .entry))) 0 (length (now (marks .entry)))) ⌝ }
+{
+    let places = rows + run_ids.len();
+    let mut k = 0;
+    while k < marks.len() {
+        if p + k == places {
+            return false;
+        }
+        if !same_at(l0_ids, run_ids, rows, p + k, marks[k], runs[k], views[2 * k], views[2 * k + 1]) {
+            return false;
+        }
+        k += 1;
+    }
+    true
+}
+
+// "sources not consecutive": they stand somewhere in the list.
+fn are_consecutive(l0_ids: &[u64], run_ids: &[u32], rows: usize, marks: &[u8], runs: &[u32], views: &[u64]) -> bool
+    requires { ⌜ (4 * rows ≤ length (now «l0_ids»)) × (length (now runs) ≡ length (now marks)) × (length (now views) ≡ 2 * length (now marks)) ⌝ }
+    ensures { λ r. ⌜ r ≡ consecutive (rowsFrom (orderAt (now («l0_ids» .entry)) (now («run_ids» .entry)) rows) 0 (rows + length (now («run_ids» .entry)))) (rowsFrom (namedAt (now (marks .entry)) (now (runs .entry)) (now (views .entry))) 0 (length (now (marks .entry)))) ⌝ }
+{
+    let places = rows + run_ids.len();
+    let mut p = 0;
+    while p < places {
+        if starts_with(l0_ids, run_ids, rows, p, marks, runs, views) {
+            return true;
+        }
+        p += 1;
+    }
+    starts_with(l0_ids, run_ids, rows, p, marks, runs, views)
+}
+
+// "the lowest run among the sources", if there is a run.
+pub enum Lowest {
+    Nothing,
+    Run(u32),
+}
+
+fn lower(l: Lowest, mark: u8, run: u32) -> Lowest
+    ensures { λ r. ⌜ ((view : Ulid) → lowestOf r ≡ joinedLow (lowestOf l) (lowestRun (idOf (record { mark = mark; run = run; view = view }) ∷ []))) ⌝ }
+{
+    if mark != 1 {
+        return l;
+    }
+    match l {
+        Lowest::Nothing => Lowest::Run(run),
+        Lowest::Run(x) => {
+            if run < x {
+                Lowest::Run(run)
+            } else {
+                Lowest::Run(x)
+            }
+        }
+    }
+}
+
+fn lowest_run(marks: &[u8], runs: &[u32]) -> Lowest
+    requires { ⌜ length (now runs) ≡ length (now marks) ⌝ }
+    ensures { λ r. ⌜ ((views : List ℕ) → lowestOf r ≡ lowestRun (rowsFrom (namedAt (now (marks .entry)) (now (runs .entry)) views) 0 (length (now (marks .entry))))) ⌝ }
+{
+    let mut low = Lowest::Nothing;
+    let mut k = 0;
+    while k < marks.len() {
+        low = lower(low, marks[k], runs[k]);
+        k += 1;
+    }
+    low
+}
+
+// "destination not the lowest run among the sources"; "With no run among them the destination is not looked at."
+fn destination_wrong(marks: &[u8], runs: &[u32], destination: u32) -> bool
+    requires { ⌜ length (now runs) ≡ length (now marks) ⌝ }
+    ensures { λ r. ⌜ ((views : List ℕ) → r ≡ wrongDestination destination (lowestRun (rowsFrom (namedAt (now (marks .entry)) (now (runs .entry)) views) 0 (length (now (marks .entry)))))) ⌝ }
+{
+    let low = lowest_run(marks, runs);
+    match low {
+        Lowest::Nothing => false,
+        Lowest::Run(x) => destination != x,
+    }
+}
