@@ -2,7 +2,7 @@
 use Prim.Native.Nat.{ℕ, _+_, _*_, _<_}
 use mathlib.Core.Path.{_≡_, refl, sym, ap, ap₂, _∙_}
 use mathlib.Core.List.{List, [], _∷_, _++_, map}
-use mathlib.Core.Bool.{_&&_, _||_, and-false, and-or-distrib-left}
+use mathlib.Core.Bool.{Bool, _&&_, _||_, and-false, or-false, and-or-distrib-left}
 use native.Mathlib.Nat.{zero-add}
 use native.Mathlib.Omega.{arith}
 use lib.Dec.{eqb}
@@ -14,6 +14,13 @@ use Rattle.rules.specs.Lent.{rowsFrom}
 use Rattle.rules.proofs.Rows.{rowsFrom-append, rowsFrom-same}
 use Rattle.size_tiered_compaction.proofs.Appended.{any-append}
 use Rattle.size_tiered_compaction.specs.Conflict.{Key, sameKey, keyOf, keyAt, keysOf, holds, usedIn, Added}
+
+-- ---- rows of the table
+
+-- "Specs picked in this call are added.": what was used, and what is added
+pub used-more : (ks js : List Key) (prefix : ℕ) (x : SourceId) → usedIn (ks ++ js) prefix x ≡ usedIn ks prefix x || usedIn js prefix x
+unfolding holds
+used-more ks js prefix x = any-append (λ k. sameKey k (keyOf prefix x)) ks js
 
 module _ (s : List ℕ) (n p m h l : ℕ) (fits : 4 * n + 3 < length s) where
   -- the four stores
@@ -56,21 +63,22 @@ module _ (s : List ℕ) (n p m h l : ℕ) (fits : 4 * n + 3 < length s) where
         getD-set-same three (4 * n + 3) l 0 (simp length-set (omega arith)),
       )
 
-  pub row-added : Added s n (record { prefix = p; mark = m; high = h; low = l }) after
+  -- the keys before it, and the key
+  one-row : keysOf after (n + 1) ≡ keysOf s n ++ (record { prefix = p; mark = m; high = h; low = l } ∷ [])
   unfolding keysOf rowsFrom
+  one-row =
+      rowsFrom-append (keyAt after) 0 n 1
+      ∙ ap₂ _++_ (rowsFrom-same (keyAt after) (keyAt s) 0 0 n (λ k g. kept (0 + k) (omega arith))) (ap (λ (k : Key). k ∷ []) (ap (keyAt after) (zero-add n) ∙ new))
+
+  pub row-added : Added s n (record { prefix = p; mark = m; high = h; low = l }) after
+  unfolding holds any
   row-added = record {
-    rows =
-        rowsFrom-append (keyAt after) 0 n 1
-        ∙ ap₂ _++_ (rowsFrom-same (keyAt after) (keyAt s) 0 0 n (λ k g. kept (0 + k) (omega arith))) (ap (λ (k : Key). k ∷ []) (ap (keyAt after) (zero-add n) ∙ new));
+    rows = one-row;
+    used = λ prefix x. rw one-row (used-more (keysOf s n) (record { prefix = p; mark = m; high = h; low = l } ∷ []) prefix x ∙ ap (λ (b : Bool). usedIn (keysOf s n) prefix x || b) (or-false _));
     kept = simp length-set;
   }
 
--- ---- more keys
-
--- "Specs picked in this call are added.": what was used, and what is added
-pub used-more : (ks js : List Key) (prefix : ℕ) (x : SourceId) → usedIn (ks ++ js) prefix x ≡ usedIn ks prefix x || usedIn js prefix x
-unfolding holds
-used-more ks js prefix x = any-append (λ k. sameKey k (keyOf prefix x)) ks js
+-- ---- ids and their keys
 
 -- two ids have one key exactly if they are the same, of one tree
 same-key : (p q : ℕ) (x y : SourceId) → sameKey (keyOf p x) (keyOf q y) ≡ eqb p q && sameId x y

@@ -7,6 +7,7 @@ ghost use Rattle.rules.specs.Tables.{sortedRun};
 ghost use Rattle.size_tiered_compaction.specs.Conflict.{sameKey, keyAt, keysOf, holds, usedIn, Added};
 use rows::ids::same_ulid;
 
+// Whether row `i` is this key.
 fn same_key(used: &[u64], i: usize, prefix: u64, mark: u64, high: u64, low: u64) -> bool
     requires { ⌜ 4 * i + 3 < length (now used) ⌝ }
     ensures { λ r. ⌜ r ≡ sameKey (keyAt (now (used .entry)) i) (record { prefix = prefix; mark = mark; high = high; low = low }) ⌝ }
@@ -36,6 +37,7 @@ pub fn is_used(used: &[u64], n: usize, prefix: u64, mark: u64, high: u64, low: u
     false
 }
 
+// A run as a source or as a destination: "no source and not the destination is used".
 pub fn run_is_used(used: &[u64], n: usize, prefix: u32, run: u32) -> bool
     requires { ⌜ 4 * n ≤ length (now used) ⌝ }
     ensures { λ r. ⌜ r ≡ usedIn (keysOf (now (used .entry)) n) prefix (sortedRun run) ⌝ }
