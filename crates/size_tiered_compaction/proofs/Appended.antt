@@ -10,22 +10,26 @@ use Rattle.rules.specs.Lists.{any, all, total}
 use Rattle.rules.specs.Windows.{last}
 
 module _ {A : Type 0} (p : A → Bool) where
+  -- one of both has p if one of the first or one of the second has
   pub any-append : (xs ys : List A) → any p (xs ++ ys) ≡ any p xs || any p ys
   unfolding any
   any-append [] ys = refl
   any-append (x ∷ xs) ys = rw (any-append xs ys) (sym (or-assoc (p x) (any p xs) (any p ys)))
 
+  -- all of both have p if all of the first and all of the second have
   pub all-append : (xs ys : List A) → all p (xs ++ ys) ≡ all p xs && all p ys
   unfolding all
   all-append [] ys = refl
   all-append (x ∷ xs) ys = rw (all-append xs ys) (sym (and-assoc (p x) (all p xs) (all p ys)))
 
+-- the last of a list and one more
 pub last-append : (xs : List ℕ) (x : ℕ) → last (xs ++ (x ∷ [])) ≡ x
 unfolding last
 last-append [] x = refl
 last-append (y ∷ []) x = refl
 last-append (y ∷ (z ∷ ys)) x = last-append (z ∷ ys) x
 
+-- the sum of both
 total-append : (xs ys : List ℕ) → total (xs ++ ys) ≡ total xs + total ys
 unfolding total
 total-append [] ys = omega arith

@@ -31,34 +31,45 @@ twice : (a b : Bool) → ((a && true) && (a && true)) && b ≡ (a && (a && true)
 twice true b = refl
 twice false b = refl
 
+-- what the builder is to find at run a
+abbrev pub longest : (ℕ → ℕ) → ℕ → (SourceId → Bool) → List ℕ → List ℕ → ℕ → ℕ
+longest lim most used ids sizes a = greatest (lasting lim most used (drop a ids) (drop a sizes)) (length (drop a ids))
+
+-- what it tries: run i, as the last of a beginning of this size
+abbrev passing : (ℕ → ℕ) → ℕ → (SourceId → Bool) → List ℕ → List ℕ → ℕ → ℕ → Bool
+passing lim most used ids sizes size i = passes lim most used (sortedRun (getD ids i 0) ∷ []) (getD ids i 0) size (drop (i + 1) sizes)
+
 module _ {lim : ℕ → ℕ} {most : ℕ} {used : SourceId → Bool} {ids sizes : List ℕ} {a : ℕ} where
+  -- before the first run is tried
   pub nothing-begun : a ≤ length sizes → Begun lim most used ids sizes a 0 0
   unfolding upTo all total
   nothing-begun h = record { fits = chain-fits lim sizes a h; within = omega arith; summed = refl; passed = refl; free = refl }
 
-  module _ {size k : ℕ} (b : Begun lim most used ids sizes a size k) where
-    -- no run of the chain is left
-    pub begun-ends : length ids ≡ length sizes → chain lim (drop a sizes) ≤ k → k ≡ greatest (lasting lim most used (drop a ids) (drop a sizes)) (length (drop a ids))
+  module _ {size k : ℕ} (b : Begun lim most used ids sizes a size k) (same : length ids ≡ length sizes) where
+    -- no longer window lasts
+    ends : k ≤ length (drop a ids) → ((j : ℕ) → k < j → lasting lim most used (drop a ids) (drop a sizes) j ≡ false) → k ≡ longest lim most used ids sizes a
     unfolding lasting
-    begun-ends same h =
-        sym (greatest-is (lasting lim most used (drop a ids) (drop a sizes)) (length (drop a ids)) k (omega (arith, length-drop a ids))
-        (λ _. rw (le-leb _ _ (b .within), b .passed))
-        (λ j l. rw (lt-leb j (chain lim (drop a sizes)) (omega arith))))
+    ends h above = sym (greatest-is (lasting lim most used (drop a ids) (drop a sizes)) (length (drop a ids)) k h (λ _. rw (le-leb _ _ (b .within), b .passed)) above)
+
+    -- no run of the chain is left
+    pub begun-ends : chain lim (drop a sizes) ≤ k → k ≡ longest lim most used ids sizes a
+    unfolding lasting
+    begun-ends h = ends (omega (arith, length-drop a ids)) (λ j l. rw (lt-leb j (chain lim (drop a sizes)) (omega arith)))
 
     -- the run at a + k is tried
-    module _ (same : length ids ≡ length sizes) (l : k < chain lim (drop a sizes)) where
+    module _ (l : k < chain lim (drop a sizes)) where
       -- its size can be added
       pub size-fits : size + getD sizes (a + k) 0 ≤ total sizes
       size-fits =
           omega (arith, b .summed, total-split a sizes, total-split (suc k) (drop a sizes), total-suc (drop a sizes) k (omega (arith, length-drop a sizes)), getD-drop a sizes k 0)
 
-      -- `grown`: the size with it
       module _ {grown : ℕ} (s : grown ≡ size + getD sizes (a + k) 0) where
-        -- what the longer beginning adds
+        -- the size of the longer beginning
         sum : total (take (suc k) (drop a sizes)) ≡ grown
         sum = omega (arith, b .summed, total-suc (drop a sizes) k (omega (arith, length-drop a sizes)), getD-drop a sizes k 0)
 
-        one-more : beginningPasses lim most used (drop a ids) (drop a sizes) (suc k) ≡ passes lim most used (sortedRun (getD ids (a + k) 0) ∷ []) (getD ids (a + k) 0) grown (drop (a + k + 1) sizes)
+        -- it passes if its last run does
+        one-more : beginningPasses lim most used (drop a ids) (drop a sizes) (suc k) ≡ passing lim most used ids sizes grown (a + k)
         unfolding beginningPasses passes all
         one-more =
             let there : k < length (drop a ids) = omega (arith, length-drop a ids) in
@@ -67,15 +78,14 @@ module _ {lim : ℕ → ℕ} {most : ℕ} {used : SourceId → Bool} {ids sizes 
             (twice (not (used (sortedRun (getD ids (a + k) 0)))) _)
 
         -- it fails: no longer window is tried
-        pub begun-blocked : passes lim most used (sortedRun (getD ids (a + k) 0) ∷ []) (getD ids (a + k) 0) grown (drop (a + k + 1) sizes) ≡ false → k ≡ greatest (lasting lim most used (drop a ids) (drop a sizes)) (length (drop a ids))
+        pub begun-blocked : passing lim most used ids sizes grown (a + k) ≡ false → k ≡ longest lim most used ids sizes a
         unfolding lasting
         begun-blocked e =
-            sym (greatest-is (lasting lim most used (drop a ids) (drop a sizes)) (length (drop a ids)) k (omega (arith, length-drop a ids))
-            (λ _. rw (le-leb _ _ (b .within), b .passed))
-            (λ j m. rw (upTo-past (beginningPasses lim most used (drop a ids) (drop a sizes)) k j (one-more ∙ e) m) (and-false (leb j (chain lim (drop a sizes))))))
+            ends (omega (arith, length-drop a ids))
+            (λ j m. rw (upTo-past (beginningPasses lim most used (drop a ids) (drop a sizes)) k j (one-more ∙ e) m) (and-false (leb j (chain lim (drop a sizes)))))
 
         -- it passes
-        pub begun-next : passes lim most used (sortedRun (getD ids (a + k) 0) ∷ []) (getD ids (a + k) 0) grown (drop (a + k + 1) sizes) ≡ true → Begun lim most used ids sizes a grown (k + 1)
+        pub begun-next : passing lim most used ids sizes grown (a + k) ≡ true → Begun lim most used ids sizes a grown (k + 1)
         unfolding upTo all passes
         begun-next e =
             let there : k < length (drop a ids) = omega (arith, length-drop a ids) in

@@ -1,14 +1,19 @@
--- The table of chain lengths, read at a run.
+-- The table of chain lengths, as a call fills it and reads it at a run.
 use Prim.Native.Nat.{ℕ, _≤_, _<_}
 use mathlib.Core.Path.{_≡_, sym, ap, _∙_}
-use mathlib.Core.List.{List}
+use mathlib.Core.List.{List, _++_}
 use native.Mathlib.Nat.{zero-add}
 use native.Mathlib.Omega.{arith}
 use lib.ListN.{length, drop, getD, length-take}
-use lib.Seq.{getD-take}
+use lib.Seq.{getD-take, take-at}
 use Rattle.rules.specs.Chain.{chain}
 use Rattle.rules.proofs.Rows.{length-rowsFrom, getD-rowsFrom}
 use Rattle.size_tiered_compaction.specs.Backpressure.{chainsOf, Chains}
+
+-- a table that was filled holds them
+pub chains-stand : (lim : ℕ → ℕ) (sizes rest : List ℕ) → Chains lim sizes (chainsOf lim sizes ++ rest)
+unfolding chainsOf
+chains-stand lim sizes rest = record { holds = take-at (chainsOf lim sizes) rest (length sizes) (length-rowsFrom (λ i. chain lim (drop i sizes)) 0 (length sizes)) }
 
 module _ {lim : ℕ → ℕ} {sizes chains : List ℕ} (t : Chains lim sizes chains) where
   -- there is a place for each run

@@ -59,6 +59,7 @@ module _ {lim : ℕ → ℕ} {sizes : List ℕ} {a least i : ℕ} (t : Taken lim
       let ends : joined lim least (drop i sizes) ≡ 0 = rw (drop-of-length-le sizes h) in
       omega arith
 
+-- no more runs are taken than are next
 joined-within : (lim : ℕ → ℕ) (least : ℕ) (sizes : List ℕ) → joined lim least sizes ≤ length sizes
 unfolding joined
 joined-within lim least [] = omega arith

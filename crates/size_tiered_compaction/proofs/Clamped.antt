@@ -14,6 +14,7 @@ part-of-part ids from d m h =
     rw (← drop-drop d from ids, take-add) (sym (drop-at (take d (drop from ids)) (take m (drop d (drop from ids))) d (length-take-le d (drop from ids) (omega (arith, length-drop from ids)))))
 
 module _ {ids : List ℕ} {from count : ℕ} {part : List ℕ} (l : Lies ids from count part) where
+  -- as many as were counted
   counted : length part ≡ count
   counted = sym (ap length (l .is)) ∙ length-take-le count (drop from ids) (omega (arith, length-drop from ids))
 
@@ -26,6 +27,7 @@ module _ {ids : List ℕ} {from count : ℕ} {part : List ℕ} (l : Lies ids fro
         rw (counted, ← l .is) (rw whole at (part-of-part ids from (count - most) most (omega arith)));
   }
 
+  -- it does not
   pub none-dropped : (most : ℕ) → count ≤ most → Lies ids from count (lastOf most part)
   none-dropped most h =
       let none : count - most ≡ 0 = omega arith in

@@ -16,6 +16,7 @@ pub record Filled (f : ℕ → ℕ) (n : ℕ) (before : List ℕ) (i : ℕ) (now
   pub so-far : now ≡ rowsFrom f 0 i ++ drop i before
 
 module _ {f : ℕ → ℕ} {n : ℕ} {before : List ℕ} where
+  -- no place is
   pub fill-starts : Filled f n before 0 before
   unfolding rowsFrom
   fill-starts = record { within = omega arith; so-far = refl }

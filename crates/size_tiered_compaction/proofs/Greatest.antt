@@ -30,6 +30,7 @@ module _ (p : ℕ → Bool) where
         | inr g ↦ rw (above (suc n) g) (greatest-is n k (le-of-suc-le-suc g) holds above)
       ]
 
+  -- it is one of the numbers up to n
   pub greatest-within : (n : ℕ) → greatest p n ≤ n
   unfolding greatest
   greatest-within zero = omega arith
@@ -39,6 +40,7 @@ module _ (p : ℕ → Bool) where
       go true h = omega arith
       go false h = omega arith
 
+  -- no number from m on is below m
   none-below : (m n : ℕ) → n < m → greatest (λ k. leb m k && p k) n ≡ 0
   unfolding greatest
   none-below m zero h = refl

@@ -12,6 +12,7 @@ use lib.Seq.{drop-cons, drop-drop}
 use Rattle.rules.specs.Tables.{SourceId}
 use Rattle.rules.specs.Windows.{lasting, eligible, greatest, orLater, window}
 use Rattle.size_tiered_compaction.specs.Window.{Lies}
+use Rattle.size_tiered_compaction.proofs.Beginnings.{longest}
 use Rattle.size_tiered_compaction.proofs.Greatest.{greatest-within, greatest-from}
 
 -- no run before run i has a window
@@ -19,6 +20,7 @@ pub record NoneYet (lim : ℕ → ℕ) (least most : ℕ) (used : SourceId → B
   pub within : i ≤ length ids
   pub left : window lim least most used (drop i ids) (drop i sizes) ≡ window lim least most used ids sizes
 
+-- a window that is there is taken
 taken : (k : ℕ) (here later : List ℕ) → 0 < k → orLater k here later ≡ take k here
 taken zero here later h = absurd (omega arith)
 taken (suc k) here later h = refl
@@ -29,17 +31,19 @@ module _ (lim : ℕ → ℕ) (least most : ℕ) (used : SourceId → Bool) where
   unfolding window eligible
   first-run x ids sizes e = rw (greatest-from (lasting lim most used (x ∷ ids) sizes) least (length (x ∷ ids)), ← e)
 
-  run-at : (ids sizes : List ℕ) (i : ℕ) {k : ℕ} → i < length ids → k ≡ greatest (lasting lim most used (drop i ids) (drop i sizes)) (length (drop i ids)) → window lim least most used (drop i ids) (drop i sizes) ≡ orLater (cond (leb least k) k 0) (drop i ids) (window lim least most used (drop (i + 1) ids) (drop (i + 1) sizes))
+  -- the same, at run i of the tree
+  run-at : (ids sizes : List ℕ) (i : ℕ) {k : ℕ} → i < length ids → k ≡ longest lim most used ids sizes i → window lim least most used (drop i ids) (drop i sizes) ≡ orLater (cond (leb least k) k 0) (drop i ids) (window lim least most used (drop (i + 1) ids) (drop (i + 1) sizes))
   run-at ids sizes i h e =
       rw (← drop-drop 1 i sizes, add-one, drop-cons ids i 0) (first-run (getD ids i 0) (drop (suc i) ids) (drop i sizes) (rw (drop-cons ids i 0) at e))
 
 module _ {lim : ℕ → ℕ} {least most : ℕ} {used : SourceId → Bool} {ids sizes : List ℕ} where
+  -- before run 0
   pub search-starts : NoneYet lim least most used ids sizes 0
   search-starts = record { within = omega arith; left = refl }
 
   module _ {i : ℕ} (s : NoneYet lim least most used ids sizes i) where
     -- `k` runs at run i last
-    module _ (h : i < length ids) {k : ℕ} (e : k ≡ greatest (lasting lim most used (drop i ids) (drop i sizes)) (length (drop i ids))) where
+    module _ (h : i < length ids) {k : ℕ} (e : k ≡ longest lim most used ids sizes i) where
       -- they are too few
       pub search-next : k < least → NoneYet lim least most used ids sizes (i + 1)
       search-next g = record {

@@ -2,7 +2,7 @@
 use Prim.Native.Nat.{ℕ, _+_, _*_}
 use mathlib.Core.Path.{_≡_}
 use mathlib.Core.List.{List, [], _∷_, _++_}
-use mathlib.Core.Bool.{Bool, _&&_}
+use mathlib.Core.Bool.{Bool, _&&_, _||_}
 use lib.Dec.{eqb}
 use lib.ListN.{length, getD}
 use Rattle.rules.specs.Lists.{any}
@@ -37,7 +37,8 @@ holds ks key = any (λ k. sameKey k key) ks
 abbrev pub usedIn : List Key → ℕ → SourceId → Bool
 usedIn ks prefix x = holds ks (keyOf prefix x)
 
--- one key more, after the first n
+-- one key more, after the first n: of every id, it was used or is the one added
 pub record Added (before : List ℕ) (n : ℕ) (key : Key) (after : List ℕ) : Type 0 where
   pub rows : keysOf after (n + 1) ≡ keysOf before n ++ (key ∷ [])
+  pub used : (prefix : ℕ) (x : SourceId) → usedIn (keysOf after (n + 1)) prefix x ≡ usedIn (keysOf before n) prefix x || sameKey key (keyOf prefix x)
   pub kept : length after ≡ length before

@@ -3,10 +3,11 @@
 ghost use mathlib.Core.Path.{_≡_};
 ghost use Prim.Native.Nat.{_+_, _*_, _<_, _≤_};
 ghost use lib.ListN.{length};
-ghost use Rattle.rules.specs.Tables.{sortedRun};
+ghost use Rattle.rules.specs.Tables.{sortedRun, sstView};
 ghost use Rattle.size_tiered_compaction.specs.Conflict.{sameKey, keyAt, keysOf, holds, usedIn, Added};
 use rows::ids::same_ulid;
 
+// Whether row `i` is this key.
 fn same_key(used: &[u64], i: usize, prefix: u64, mark: u64, high: u64, low: u64) -> bool
     requires { ⌜ 4 * i + 3 < length (now used) ⌝ }
     ensures { λ r. ⌜ r ≡ sameKey (keyAt (now (used .entry)) i) (record { prefix = prefix; mark = mark; high = high; low = low }) ⌝ }
@@ -36,11 +37,20 @@ pub fn is_used(used: &[u64], n: usize, prefix: u64, mark: u64, high: u64, low: u
     false
 }
 
+// A run as a source or as a destination: "no source and not the destination is used".
 pub fn run_is_used(used: &[u64], n: usize, prefix: u32, run: u32) -> bool
     requires { ⌜ 4 * n ≤ length (now used) ⌝ }
     ensures { λ r. ⌜ r ≡ usedIn (keysOf (now (used .entry)) n) prefix (sortedRun run) ⌝ }
 {
     is_used(used, n, prefix as u64, 1, 0, run as u64)
+}
+
+// An L0 row as a source.
+pub fn view_is_used(used: &[u64], n: usize, prefix: u32, high: u64, low: u64) -> bool
+    requires { ⌜ 4 * n ≤ length (now used) ⌝ }
+    ensures { λ r. ⌜ r ≡ usedIn (keysOf (now (used .entry)) n) prefix (sstView (record { high = high; low = low })) ⌝ }
+{
+    is_used(used, n, prefix as u64, 0, high, low)
 }
 
 // One key more, after the first `n`.

@@ -41,7 +41,7 @@ fn first_window(
     Window { from: i, count: 0 }
 }
 
-// "Should k exceed max, the front is dropped." (clamp_max)
+// Where the runs lie that are merged: "Should k exceed max, the front is dropped." (clamp_max)
 pub fn find_window(
     o: Options,
     used: &[u64],
