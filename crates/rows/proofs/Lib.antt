@@ -11,3 +11,4 @@ pub mod Lift
 pub mod Shapes
 pub mod Falls
 pub mod Finds
+pub mod Found

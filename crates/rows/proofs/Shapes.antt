@@ -89,7 +89,7 @@ shuffled true false true d = refl
 shuffled true true c d = refl
 
 module _ (j : LentJobs) where
-  ids-are : (i s n : ℕ) → map (λ (x : Job). x .id) (jobsFrom j i s n) ≡ rowsFrom (λ k. ulidAt (j .jobIds) (2 * k)) i n
+  pub ids-are : (i s n : ℕ) → map (λ (x : Job). x .id) (jobsFrom j i s n) ≡ rowsFrom (λ k. ulidAt (j .jobIds) (2 * k)) i n
   unfolding jobsFrom rowsFrom
   ids-are i s zero = refl
   ids-are i s (suc n) = ap (λ (l : List Ulid). ulidAt (j .jobIds) (2 * i) ∷ l) (ids-are (i + 1) (s + sourceCount j i) n)

@@ -1,11 +1,12 @@
 -- A loop that sums rows: what it has and the sum of the rows that are left are the sum of all.
 use Prim.Native.Nat.{ℕ, _+_, _-_, _≤_, _<_}
-use mathlib.Core.Path.{_≡_, ap}
+use mathlib.Core.Path.{_≡_, sym, ap, _∙_}
+use mathlib.Core.List.{List, [], _∷_, _++_}
 use native.Mathlib.Nat.{zero-add}
 use native.Mathlib.Omega.{arith}
 use Rattle.rules.specs.Lists.{total}
 use Rattle.rules.specs.Lent.{rowsFrom}
-use Rattle.rules.proofs.Rows.{rows-next, rows-end}
+use Rattle.rules.proofs.Rows.{rowsFrom-append, rows-next, rows-end}
 
 abbrev pub Summed : (ℕ → ℕ) → ℕ → ℕ → ℕ → Type 0
 Summed f n sum i = sum + total (rowsFrom f i (n - i)) ≡ total (rowsFrom f 0 n)
@@ -23,3 +24,16 @@ module _ (f : ℕ → ℕ) (n : ℕ) where
   pub sum-ends : (sum i : ℕ) → n ≤ i → Summed f n sum i → sum ≡ total (rowsFrom f 0 n)
   unfolding total
   sum-ends sum i h s = omega (arith, ap total (rows-end f i n h))
+
+total-append : (xs ys : List ℕ) → total (xs ++ ys) ≡ total xs + total ys
+unfolding total
+total-append [] ys = sym (zero-add (total ys))
+total-append (x ∷ xs) ys = omega (arith, total-append xs ys)
+
+-- the rows of one of n, after those before it, stand within those of all
+pub part-within : (f : ℕ → ℕ) (i n : ℕ) → i < n → total (rowsFrom f 0 i) + f i ≤ total (rowsFrom f 0 n)
+unfolding total
+part-within f i n h =
+    let all : n ≡ i + (n - i) = omega arith in
+    let split : total (rowsFrom f 0 n) ≡ total (rowsFrom f 0 i) + total (rowsFrom f i (n - i)) = ap (λ (m : ℕ). total (rowsFrom f 0 m)) all ∙ ap total (rowsFrom-append f 0 i (n - i)) ∙ total-append (rowsFrom f 0 i) (rowsFrom f (0 + i) (n - i)) ∙ ap (λ (k : ℕ). total (rowsFrom f 0 i) + total (rowsFrom f k (n - i))) (zero-add i) in
+    omega (arith, ap total (rows-next f i n h))

@@ -1,9 +1,9 @@
 -- The loops of validation: sources held against places p + k of a list, and places tried one after the other.
 use Prim.Native.Nat.{ℕ, _+_, _-_, _≤_, _<_}
 use mathlib.Core.Path.{_≡_, sym, ap, _∙_}
-use mathlib.Core.List.{List, [], _∷_}
+use mathlib.Core.List.{List}
 use mathlib.Core.Bool.{Bool, true, false}
-use native.Mathlib.Nat.{add-zero, sub-zero, add-assoc}
+use native.Mathlib.Nat.{add-zero, sub-zero}
 use native.Mathlib.Omega.{arith}
 use Rattle.rules.specs.Tables.{SourceId, sameId}
 use Rattle.rules.specs.Lent.{rowsFrom}

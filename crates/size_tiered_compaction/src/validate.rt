@@ -10,7 +10,16 @@ ghost use Rattle.size_tiered_compaction.specs.Order.{orderAt, namedAt, l
 use rows::ids::same_source;
 
 // Whether place `q` of "the tree's L0 then runs, as one list" is this source.
-fn same_at(l0_ids: &[u64], run_ids: &[u32], rows: usize, q: usize, mark: u8, run: u32, high: u64, low: u64) -> bool
+fn same_at(
+    l0_ids: &[u64],
+    run_ids: &[u32],
+    rows: usize,
+    q: usize,
+    mark: u8,
+    run: u32,
+    high: u64,
+    low: u64,
+) -> bool
     requires { ⌜ (4 * rows ≤ length (now «l0_ids»)) × (q + 1 ≤ rows + length (now «run_ids»)) ⌝ }
     ensures { λ r. ⌜ r ≡ sameId (orderAt (now («l0_ids» .entry)) (now («run_ids» .entry)) rows q) (idOf (record { mark = mark; run = run; view = record { high = high; low = low } })) ⌝ }
 {
@@ -21,7 +30,15 @@ fn same_at(l0_ids: &[u64], run_ids: &[u32], rows: usize, q: usize, mark: u8, run
 }
 
 // Whether the sources stand one after the other from place `p` on.
-fn starts_with(l0_ids: &[u64], run_ids: &[u32], rows: usize, p: usize, marks: &[u8], runs: &[u32], views: &[u64]) -> bool
+fn starts_with(
+    l0_ids: &[u64],
+    run_ids: &[u32],
+    rows: usize,
+    p: usize,
+    marks: &[u8],
+    runs: &[u32],
+    views: &[u64],
+) -> bool
     requires { ⌜ (4 * rows ≤ length (now «l0_ids»)) × (p ≤ rows + length (now «run_ids»)) × (length (now runs) ≡ length (now marks)) × (length (now views) ≡ 2 * length (now marks)) ⌝ }
     ensures { λ r. ⌜ r ≡ startsWith (rowsFrom (orderAt (now («l0_ids» .entry)) (now («run_ids» .entry)) rows) p (rows + length (now («run_ids» .entry)) - p)) (rowsFrom (namedAt (now (marks .entry)) (now (runs .entry)) (now (views .entry))) 0 (length (now (marks .entry)))) ⌝ }
 {
@@ -31,7 +48,16 @@ fn starts_with(l0_ids: &[u64], run_ids: &[u32], rows: usize, p: usize, marks: &[
         if p + k == places {
             return false;
         }
-        if !same_at(l0_ids, run_ids, rows, p + k, marks[k], runs[k], views[2 * k], views[2 * k + 1]) {
+        if !same_at(
+            l0_ids,
+            run_ids,
+            rows,
+            p + k,
+            marks[k],
+            runs[k],
+            views[2 * k],
+            views[2 * k + 1],
+        ) {
             return false;
         }
         k += 1;
@@ -40,7 +66,14 @@ fn starts_with(l0_ids: &[u64], run_ids: &[u32], rows: usize, p: usize, marks: &[
 }
 
 // "sources not consecutive": they stand somewhere in the list.
-fn are_consecutive(l0_ids: &[u64], run_ids: &[u32], rows: usize, marks: &[u8], runs: &[u32], views: &[u64]) -> bool
+fn are_consecutive(
+    l0_ids: &[u64],
+    run_ids: &[u32],
+    rows: usize,
+    marks: &[u8],
+    runs: &[u32],
+    views: &[u64],
+) -> bool
     requires { ⌜ (4 * rows ≤ length (now «l0_ids»)) × (length (now runs) ≡ length (now marks)) × (length (now views) ≡ 2 * length (now marks)) ⌝ }
     ensures { λ r. ⌜ r ≡ consecutive (rowsFrom (orderAt (now («l0_ids» .entry)) (now («run_ids» .entry)) rows) 0 (rows + length (now («run_ids» .entry)))) (rowsFrom (namedAt (now (marks .entry)) (now (runs .entry)) (now (views .entry))) 0 (length (now (marks .entry)))) ⌝ }
 {

@@ -1,15 +1,10 @@
 -- `size_tiered_compaction::validate::are_consecutive` meets its contract. Assumes nothing.
 use borrow.Author.Needs.{needs}
-use mathlib.Core.Path.{sym, ap, _∙_}
-use mathlib.Core.List.{List}
-use mathlib.Core.Bool.{Bool, or-false}
-use Prim.Native.Nat.{ℕ, _+_, _-_, _≤_}
-use native.Mathlib.Omega.{arith}
+use mathlib.Core.Path.{sym, _∙_}
+use Prim.Native.Nat.{_+_, _-_, _≤_}
 use lib.ListN.{length}
-use Rattle.rules.specs.Tables.{SourceId}
 use Rattle.rules.specs.Lent.{rowsFrom}
-use Rattle.rules.specs.Validation.{startsWith, consecutive}
-use Rattle.rules.proofs.Rows.{rows-next, rows-end}
+use Rattle.rules.specs.Validation.{consecutive}
 use Rattle.rows.proofs.Scans.{Left, scan-starts}
 use Rattle.size_tiered_compaction.specs.Order.{orderAt, namedAt}
 use Rattle.size_tiered_compaction.proofs.Consecutive.{place-found, place-on, places-end}
@@ -18,7 +13,6 @@ use Rattle.size_tiered_compaction.proofs.validate.are_consecutive.Tie a
 use Rattle.size_tiered_compaction.proofs.validate.are_consecutive.Reads as reads
 use Rattle.size_tiered_compaction.proofs.validate.are_consecutive.Lts as lts
 use Rattle.size_tiered_compaction.proofs.validate.starts_with.Reads as starts-with-reads
-
 
 abbrev Inv-loop : tie.InvT-loop
 Inv-loop l0-ids run-ids rows marks runs views places p₀ p = (p ≤ rows + length run-ids) × Left (λ l. consecutive l (rowsFrom (namedAt marks runs views) 0 (length marks))) (orderAt l0-ids run-ids rows) (rows + length run-ids) p (consecutive (rowsFrom (orderAt l0-ids run-ids rows) 0 (rows + length run-ids)) (rowsFrom (namedAt marks runs views) 0 (length marks)))

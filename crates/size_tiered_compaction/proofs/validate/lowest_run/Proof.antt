@@ -3,7 +3,6 @@ use borrow.Author.Needs.{needs}
 use Prim.Native.Nat.{ℕ, _-_}
 use mathlib.Core.List.{List}
 use lib.ListN.{length}
-use Rattle.rules.specs.Lent.{ulidAt}
 use Rattle.size_tiered_compaction.specs.Order.{namedAt, lowestOf}
 use Rattle.size_tiered_compaction.proofs.Lowest.{Lower, low-starts, low-on, low-ends}
 use Rattle.size_tiered_compaction.proofs.validate.lowest_run.Statement.{statement}
@@ -11,7 +10,6 @@ use Rattle.size_tiered_compaction.proofs.validate.lowest_run.Tie as tie
 use Rattle.size_tiered_compaction.proofs.validate.lowest_run.Reads as reads
 use Rattle.size_tiered_compaction.proofs.validate.lowest_run.Lts as lts
 use Rattle.size_tiered_compaction.proofs.validate.lower.Reads as lower-reads
-
 
 abbrev Inv-loop : tie.InvT-loop
 Inv-loop marks runs low₀ k₀ low k = (views : List ℕ) → Lower (namedAt marks runs views) (length marks) k (lowestOf low)

@@ -7,7 +7,6 @@ use Rattle.size_tiered_compaction.proofs.validate.same_at.Reads as read
 use Rattle.size_tiered_compaction.proofs.validate.same_at.Lts as lts
 use Rattle.rows.proofs.ids.same_source.Reads as same-source-reads
 
-
 -- src/validate.rt:17:41
 mul-same-source : tie.Need-mul-same-source
 mul-same-source c = search needs

@@ -2,7 +2,7 @@
 use borrow.Author.Needs.{needs}
 use borrow.Author.Tests.{not-true, not-false}
 use mathlib.Core.Path.{sym, _∙_}
-use Prim.Native.Nat.{ℕ, _+_, _-_}
+use Prim.Native.Nat.{_+_, _-_}
 use native.Mathlib.Omega.{arith}
 use lib.ListN.{length}
 use Rattle.rules.specs.Lent.{rowsFrom}
@@ -14,7 +14,6 @@ use Rattle.size_tiered_compaction.proofs.validate.starts_with.Tie as ti
 use Rattle.size_tiered_compaction.proofs.validate.starts_with.Reads as reads
 use Rattle.size_tiered_compaction.proofs.validate.starts_with.Lts as lts
 use Rattle.size_tiered_compaction.proofs.validate.same_at.Reads as same-at-reads
-
 
 abbrev Inv-loop : tie.InvT-loop
 Inv-loop l0-ids run-ids rows p marks runs views places k₀ k = Matches (orderAt l0-ids run-ids rows) (namedAt marks runs views) (rows + length run-ids) (length marks) p k (startsWith (rowsFrom (orderAt l0-ids run-ids rows) p (rows + length run-ids - p)) (rowsFrom (namedAt marks runs views) 0 (length marks)))
