@@ -1,3 +1,4 @@
 -- The definitions that the contracts of rows cite.
 pub mod Movers
 pub mod Shape
+pub mod Read

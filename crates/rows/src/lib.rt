@@ -6,5 +6,6 @@ pub mod jobs;
 pub mod r32;
 pub mod r64;
 pub mod r8;
+pub mod read;
 pub mod shape;
 pub mod trees;

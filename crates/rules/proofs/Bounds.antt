@@ -1,13 +1,14 @@
--- What a table that is not refused 1 or 2 is known to be: within its bounds, and lent at its capacity.
+-- What a table that is not refused 1 or 2 is known to be: within its bounds, lent at its capacity, its rows by the rules.
 use Prim.Native.Nat.{_*_, _≤_, _<_}
-use mathlib.Core.Path.{_≡_}
-use mathlib.Core.Bool.{true, false, _&&_, _||_}
+use mathlib.Core.Path.{_≡_, refl, ap}
+use mathlib.Core.Bool.{Bool, true, false, _&&_, _||_, not}
 use native.Mathlib.Omega.{arith}
 use lib.Dec.{ltb, eqb}
 use lib.ListN.{length}
 use borrow.Author.Tests.{eqb-true, eqb-false, ltb-false}
-use Rattle.rules.specs.Lent.{LentTrees, LentJobs, l0Used, runsUsed, sourcesUsed}
-use Rattle.rules.specs.Bounds.{maxTrees, maxL0, maxRuns, maxJobs, maxSources, treesOutside, jobsOutside, treesAtCapacity, jobsAtCapacity}
+use Rattle.rules.specs.Lists.{_given_else_}
+use Rattle.rules.specs.Lent.{LentTrees, LentJobs, treesOf, jobsOf, l0Used, runsUsed, sourcesUsed}
+use Rattle.rules.specs.Bounds.{maxTrees, maxL0, maxRuns, maxJobs, maxSources, treesOutside, jobsOutside, treesAtCapacity, jobsAtCapacity, goodTrees, goodJobs, treesMisshapen, jobsMisshapen, treesRefusal, jobsRefusal}
 use Rattle.rules.proofs.Lookups.{and-left, and-right, or-left, or-right}
 
 -- ---- within the bounds
@@ -110,4 +111,50 @@ jobs-lent j h =
       sourceMarks = eqb-true (length (j .sourceMarks)) maxSources (and-right (a && b && c) d upD);
       sourceRuns = eqb-true (length (j .sourceRuns)) maxSources (and-right (a && b && c && d) e upE);
       sourceViews = eqb-true (length (j .sourceViews)) (2 * maxSources) (and-right (a && b && c && d && e) f h);
+    }
+
+-- ---- a table that is not refused by itself
+
+pub record TreesGood (t : LentTrees) : Type 0 where
+  pub inside : treesOutside t ≡ false
+  pub shapely : treesMisshapen t ≡ false
+  pub within : TreesWithin t
+  pub lent : TreesLent t
+  pub rules : goodTrees (treesOf t) ≡ true
+
+pub trees-good : (t : LentTrees) → treesRefusal t ≡ 0 → TreesGood t
+unfolding treesRefusal treesMisshapen
+trees-good t h = go (treesOutside t) (treesAtCapacity t && goodTrees (treesOf t)) refl refl h
+  where
+    go : (a b : Bool) → treesOutside t ≡ a → treesAtCapacity t && goodTrees (treesOf t) ≡ b → (1 given a else 2 given not b else 0) ≡ 0 → TreesGood t
+    go true b e f z = absurd (omega arith)
+    go false false e f z = absurd (omega arith)
+    go false true e f z = record {
+      inside = e;
+      shapely = ap not f;
+      within = trees-within t e;
+      lent = trees-lent t (and-left (treesAtCapacity t) (goodTrees (treesOf t)) f);
+      rules = and-right (treesAtCapacity t) (goodTrees (treesOf t)) f;
+    }
+
+pub record JobsGood (j : LentJobs) : Type 0 where
+  pub inside : jobsOutside j ≡ false
+  pub shapely : jobsMisshapen j ≡ false
+  pub within : JobsWithin j
+  pub lent : JobsLent j
+  pub rules : goodJobs (jobsOf j) ≡ true
+
+pub jobs-good : (j : LentJobs) → jobsRefusal j ≡ 0 → JobsGood j
+unfolding jobsRefusal jobsMisshapen
+jobs-good j h = go (jobsOutside j) (jobsAtCapacity j && goodJobs (jobsOf j)) refl refl h
+  where
+    go : (a b : Bool) → jobsOutside j ≡ a → jobsAtCapacity j && goodJobs (jobsOf j) ≡ b → (1 given a else 2 given not b else 0) ≡ 0 → JobsGood j
+    go true b e f z = absurd (omega arith)
+    go false false e f z = absurd (omega arith)
+    go false true e f z = record {
+      inside = e;
+      shapely = ap not f;
+      within = jobs-within j e;
+      lent = jobs-lent j (and-left (jobsAtCapacity j) (goodJobs (jobsOf j)) f);
+      rules = and-right (jobsAtCapacity j) (goodJobs (jobsOf j)) f;
     }

@@ -19,6 +19,10 @@ pub record LentSpec : Type 0 where
   pub runs : List ℕ
   pub views : List ℕ
 
+abbrev pub lentSpec : ℕ → ℕ → ℕ → List ℕ → List ℕ → List ℕ → LentSpec
+lentSpec drain prefix destination marks runs views =
+    record { drain = drain; prefix = prefix; destination = destination; marks = marks; runs = runs; views = views }
+
 -- all the source entries of three slices
 abbrev pub lentSources : List ℕ → List ℕ → List ℕ → List Source
 lentSources marks runs views = rowsFrom (sourceAt marks runs views) 0 (length marks)

@@ -11,3 +11,5 @@ pub mod LeastRun
 pub mod Clamped
 pub mod Consecutive
 pub mod Lowest
+pub mod OneList
+pub mod Validated

@@ -1,31 +1,23 @@
--- `size_tiered_compaction::validate::destination_wrong` meets its contract. Assumes nothing.
+-- `destination_wrong` meets its contract: what `lowest_run` finds decides.
 use borrow.Author.Needs.{needs}
 use mathlib.Core.Path.{sym, ap, _∙_}
 use Rattle.rules.specs.Validation.{wrongDestination}
 use Rattle.size_tiered_compaction.specs.Order.{lowestOf}
 use Rattle.size_tiered_compaction.proofs.validate.destination_wrong.Statement.{statement}
 use Rattle.size_tiered_compaction.proofs.validate.destination_wrong.Tie as tie
-use Rattle.size_tiered_compaction.proofs.validate.destination_wrong.Reads as reads
-use Rattle.size_tiered_compaction.proofs.validate.destination_wrong.Lts as lts
-use Rattle.size_tiered_compaction.proofs.validate.lowest_run.Reads as lowest-run-reads
 
--- src/validate.rt:100:9
 lowest-run-requires : tie.Need-lowest-run-requires
 lowest-run-requires c κs = search needs
 
--- src/validate.rt:102:28
 enum-told : tie.Need-enum-told
 enum-told c = search needs
 
--- src/validate.rt:103:21
 enum-known-low : tie.Need-enum-known-low
 enum-known-low c = search needs
 
--- src/validate.rt:96:1
 returns : tie.Need-returns
 returns c = λ views. ap (wrongDestination _) (sym (ap lowestOf (c .enum-told .given .1)) ∙ c .before .before .lowest-run .ensures views)
 
--- src/validate.rt:96:1
 returns-2 : tie.Need-returns-2
 returns-2 c = λ views. ap (wrongDestination _) (sym (ap lowestOf (c .before .low .given .1)) ∙ c .before .before .before .lowest-run .ensures views)
 

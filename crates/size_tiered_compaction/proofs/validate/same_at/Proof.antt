@@ -1,61 +1,45 @@
--- `size_tiered_compaction::validate::same_at` meets its contract. Assumes nothing.
+-- `same_at` meets its contract: before the last L0 row the place is a view, after it a run.
 use borrow.Author.Tests.{lt-ltb, le-ltb}
 use borrow.Author.Needs.{needs}
 use Rattle.size_tiered_compaction.proofs.validate.same_at.Statement.{statement}
 use Rattle.size_tiered_compaction.proofs.validate.same_at.Tie as tie
-use Rattle.size_tiered_compaction.proofs.validate.same_at.Reads as reads
-use Rattle.size_tiered_compaction.proofs.validate.same_at.Lts as lts
-use Rattle.rows.proofs.ids.same_source.Reads as same-source-reads
 
--- src/validate.rt:17:41
 mul-same-source : tie.Need-mul-same-source
 mul-same-source c = search needs
 
--- src/validate.rt:17:34
 mul-same-source-2 : tie.Need-mul-same-source-2
 mul-same-source-2 c = search needs
 
--- src/validate.rt:17:34
 shared-slice-read-same-source : tie.Need-shared-slice-read-same-source
 shared-slice-read-same-source c = search needs
 
--- src/validate.rt:17:56
 mul-same-source-3 : tie.Need-mul-same-source-3
 mul-same-source-3 c = search needs
 
--- src/validate.rt:17:56
 add-same-source : tie.Need-add-same-source
 add-same-source c = search needs
 
--- src/validate.rt:17:49
 mul-same-source-4 : tie.Need-mul-same-source-4
 mul-same-source-4 c = search needs
 
--- src/validate.rt:17:49
 shared-slice-read-same-source-2 : tie.Need-shared-slice-read-same-source-2
 shared-slice-read-same-source-2 c = search needs
 
--- src/validate.rt:17:9
 same-source-requires : tie.Need-same-source-requires
 same-source-requires c κs = search needs
 
--- src/validate.rt:17:9
 returns : tie.Need-returns
 returns c = rw (lt-ltb _ _ (c .before .before .before .if1 .taken)) (c .same-source .ensures)
 
--- src/validate.rt:19:20
 mul-same-source-5 : tie.Need-mul-same-source-5
 mul-same-source-5 c = search needs
 
--- src/validate.rt:19:20
 shared-slice-read-same-source-3 : tie.Need-shared-slice-read-same-source-3
 shared-slice-read-same-source-3 c = search needs
 
--- src/validate.rt:19:5
 same-source-requires-2 : tie.Need-same-source-requires-2
 same-source-requires-2 c κs = search needs
 
--- src/validate.rt:12:1
 returns-2 : tie.Need-returns-2
 returns-2 c = rw (le-ltb _ _ (c .before .before .if1 .left)) (c .same-source2 .ensures)
 
