@@ -1,0 +1,3 @@
+-- Demand 3 is proved in two halves that meet in Passes: a tree's picks follow its own list (Used to Own), and dealing from
+-- lists in turns has the totals and shares that are asked for (Deal).
+pub mod Deal
