@@ -1,3 +1,6 @@
 -- Demand 3 is proved in two halves that meet in Passes: a tree's picks follow its own list (Used to Own), and dealing from
 -- lists in turns has the totals and shares that are asked for (Deal).
+pub mod Used
+pub mod Windows
+pub mod Picks
 pub mod Deal
