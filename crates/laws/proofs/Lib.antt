@@ -3,4 +3,5 @@
 pub mod Used
 pub mod Windows
 pub mod Picks
+pub mod Own
 pub mod Deal
