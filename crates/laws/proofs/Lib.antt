@@ -5,3 +5,4 @@ pub mod Windows
 pub mod Picks
 pub mod Own
 pub mod Deal
+pub mod Order
