@@ -6,3 +6,4 @@ pub mod Picks
 pub mod Own
 pub mod Deal
 pub mod Order
+pub mod Passes
