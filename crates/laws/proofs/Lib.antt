@@ -7,3 +7,5 @@ pub mod Own
 pub mod Deal
 pub mod Order
 pub mod Passes
+pub mod Fresh
+pub mod Demand3

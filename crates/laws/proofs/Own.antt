@@ -1,6 +1,6 @@
 -- A tree's picks follow its own list, whatever fresh numbers it is offered: what is used differs in fresh numbers alone, and
 -- nothing but the destination of step 1 looks at those.
-use Prim.Native.Nat.{ℕ, zero, suc, _+_, _-_, _≤_, _<_, min}
+use Prim.Native.Nat.{ℕ, zero, suc, _+_, _-_, _≤_}
 use mathlib.Core.Path.{_≡_, refl, sym, ap, ap₂, _∙_}
 use mathlib.Core.List.{List, [], _∷_, _++_, map, List·Memᴰ, Memᴰ·append-left}
 use mathlib.Core.Bool.{Bool, true, false, cond, _&&_, _||_, not, or-true, true≢false}

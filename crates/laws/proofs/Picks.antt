@@ -1,9 +1,9 @@
 -- One pick from a tree: it is for that tree, all that it uses was free, and it uses a row of the tree.
 use Prim.Native.Nat.{ℕ, zero, suc, _+_, _-_, _≤_, _<_}
-use mathlib.Core.Path.{_≡_, refl, sym, ap, _∙_, subst}
+use mathlib.Core.Path.{_≡_, refl, sym, ap, _∙_}
 use mathlib.Core.List.{List, [], _∷_, _++_, map, List·Memᴰ, List·Memᴰ·head, List·Memᴰ·tail, Memᴰ·append-left, Memᴰ·append-right}
-use mathlib.Core.Bool.{Bool, true, false, cond, _&&_, not}
-use mathlib.Core.Option.{Option, some, none, Option·some-injective, Option·none-ne-some}
+use mathlib.Core.Bool.{Bool, true, false, cond, not}
+use mathlib.Core.Option.{some, Option·some-injective, Option·none-ne-some}
 use native.Mathlib.Omega.{arith}
 use lib.Dec.{leb}
 use lib.ListN.{length, drop, length-append, length-map}
@@ -13,10 +13,10 @@ use Rattle.rules.specs.Lists.{all, total, lastOf}
 use Rattle.rules.specs.Tables.{SourceId, sortedRun, L0Row, Tree, among, viewId}
 use Rattle.rules.specs.Chain.{heldBack}
 use Rattle.rules.specs.Windows.{passes, last, window}
-use Rattle.rules.specs.Pick.{Spec, specUses, also, Picked, idsOf, sizesOf, l0SizesOf, oldest, takesRows, rowPick, runPick, pick}
+use Rattle.rules.specs.Pick.{specUses, also, Picked, idsOf, sizesOf, l0SizesOf, oldest, takesRows, rowPick, runPick, pick}
 use Rattle.rules.proofs.Lookups.{and-left, and-right}
 use Rattle.laws.proofs.Used.{all-append, all-mem, mem-among, unused, free, free-lt}
-use Rattle.laws.proofs.Windows.{windowUses, window-free}
+use Rattle.laws.proofs.Windows.{window-free}
 
 -- the ids of a tree's rows and runs
 abbrev pub rowsOf : Tree → List SourceId

@@ -1,13 +1,13 @@
 -- What is used, as a test on ids: when two tests say the same of all ids but fresh numbers, and how many ids are free.
-use Prim.Native.Nat.{ℕ, zero, suc, _+_, _≤_, _<_}
-use mathlib.Core.Path.{_≡_, refl, sym, ap, ap₂, _∙_}
+use Prim.Native.Nat.{ℕ, suc, _≤_, _<_}
+use mathlib.Core.Path.{_≡_, refl, sym, ap₂}
 use mathlib.Core.List.{List, [], _∷_, _++_, List·Memᴰ, List·Memᴰ·head, List·Memᴰ·tail}
 use mathlib.Core.Bool.{Bool, true, false, cond, _&&_, _||_, not, and-assoc, or-assoc, or-true, false≢true}
 use native.Mathlib.Omega.{arith}
 use lib.ListN.{length}
 use borrow.Author.Tests.{eq-eqb, ne-eqb}
 use Rattle.rules.specs.Lists.{any, all}
-use Rattle.rules.specs.Tables.{Ulid, SourceId, sortedRun, sstView, sameId, among}
+use Rattle.rules.specs.Tables.{SourceId, sortedRun, sstView, sameId, among}
 use Rattle.rules.proofs.Lookups.{and-left, and-right, ulid-same}
 
 -- ---- tests over lists

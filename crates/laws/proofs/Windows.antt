@@ -1,6 +1,6 @@
 -- Windows: they go by old ids alone, and all that a window takes is free.
 use Prim.Native.Nat.{ℕ, zero, suc, _<_}
-use mathlib.Core.Path.{_≡_, refl, sym, ap, ap₂, _∙_, fun-ext, subst}
+use mathlib.Core.Path.{_≡_, refl, ap, ap₂, fun-ext, subst}
 use mathlib.Core.List.{List, [], _∷_, _++_, map, nil≢cons, List·Memᴰ, List·Memᴰ·head, List·Memᴰ·tail}
 use mathlib.Core.Bool.{Bool, true, false, cond, _&&_, not}
 use native.Mathlib.Omega.{arith}
