@@ -9,3 +9,4 @@ pub mod Order
 pub mod Passes
 pub mod Fresh
 pub mod Demand3
+pub mod PlanCall

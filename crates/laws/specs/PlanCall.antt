@@ -1,0 +1,51 @@
+-- Demand 3 of the public planning call: where the call is not refused, on whatever slices it is lent.
+use Prim.Native.Nat.{ℕ, _+_, _/_, _≤_, _<_, min}
+use mathlib.Core.Path.{_≡_}
+use mathlib.Core.List.{List, map, List·Memᴰ}
+use mathlib.Core.Bool.{true}
+use lib.ListN.{length, take}
+use Rattle.rules.specs.declared.Options.{Options}
+use Rattle.rules.specs.declared.PlanAnswer.the-variants.{Planned}
+use Rattle.rules.specs.Lists.{total}
+use Rattle.rules.specs.Tables.{sortedRun, Tree, among}
+use Rattle.rules.specs.Lent.{LentTrees, LentJobs, treesOf, jobsOf}
+use Rattle.rules.specs.Limit.{limitOf}
+use Rattle.rules.specs.Windows.{usedIds}
+use Rattle.rules.specs.Pick.{Spec, lastRun}
+use Rattle.rules.specs.Plan.{Plan, firstFresh, freeSlots, planned, ownListOf}
+use Rattle.rules.specs.Planning.{LentPlan, planRefusal, layPlan}
+use Rattle.rules.specs.Calls.{planCall}
+use Rattle.laws.specs.Demand3.{gets, aside, largest}
+
+-- the plan that the call is to hand back
+abbrev pub planOf : Options → LentTrees → LentJobs → Plan
+planOf o t j = planned (limitOf (o .threshold)) o (treesOf t) (jobsOf j)
+
+-- a tree's own list
+abbrev pub ownOf : Options → LentTrees → LentJobs → Tree → List Spec
+ownOf o t j x = ownListOf (limitOf (o .threshold)) o (treesOf t) (jobsOf j) x
+
+-- demand 3's premises: the call is not refused, and its own two
+pub record Accepted (o : Options) (t : LentTrees) (j : LentJobs) (p : LentPlan) : Type 0 where
+  pub accepted : planRefusal o t j p ≡ 0
+  -- the first fresh number plus T is at most 4,294,967,295
+  pub room : firstFresh (treesOf t) (jobsOf j) + t .count ≤ lastRun
+  -- every run number in a tree's active jobs is below the first fresh number
+  pub below : (x : Tree) → List·Memᴰ x (treesOf t) → (n : ℕ) → among (sortedRun n) (usedIds (jobsOf j) (x .prefix)) ≡ true → n < firstFresh (treesOf t) (jobsOf j)
+
+pub record Demand3Call (o : Options) (t : LentTrees) (j : LentJobs) (p : LentPlan) : Type 0 where
+  -- (a) and (d) as the answer has them: the specs are F, or where that is less, as many as all own lists together; the
+  -- passes are the largest number of specs that any tree got
+  pub answer :
+      planCall o t j p .answer
+      ≡ Planned
+      (min (freeSlots o (jobsOf j)) (total (map (λ x. length (ownOf o t j x)) (treesOf t))))
+      (largest (map (λ x. length (gets (planOf o t j) x)) (treesOf t)))
+  -- the lent plan holds just these specs
+  pub plan : planCall o t j p .plan ≡ layPlan p (planOf o t j .specs)
+  -- (b) the specs of each tree are the first entries of its own list, fresh destination numbers aside
+  pub entries : (x : Tree) → List·Memᴰ x (treesOf t) →
+      map aside (gets (planOf o t j) x) ≡ take (length (gets (planOf o t j) x)) (map aside (ownOf o t j x))
+  -- (c) a tree with an own list of length L gets at least min(L, F / T rounded down), whatever the other trees hold
+  pub share : (x : Tree) → List·Memᴰ x (treesOf t) →
+      min (length (ownOf o t j x)) (freeSlots o (jobsOf j) / t .count) ≤ length (gets (planOf o t j) x)
