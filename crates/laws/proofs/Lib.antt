@@ -10,3 +10,4 @@ pub mod Passes
 pub mod Fresh
 pub mod Demand3
 pub mod PlanCall
+pub mod Fuel

@@ -17,7 +17,7 @@ use Rattle.rules.specs.Windows.{passes, last, window}
 use Rattle.rules.specs.Pick.{Spec, specUses, also, lastRun, Picked, idsOf, sizesOf, l0SizesOf, oldest, takesRows, rowPick, runPick, pick, andOn, ownFirst, ownList}
 use Rattle.rules.proofs.Lookups.{and-left}
 use Rattle.laws.specs.Demand3.{setAside, aside}
-use Rattle.laws.proofs.Used.{Old, AllOld, Same, all-append, all-mem, among-append, mem-among, old-append, old-not-fresh, fresh-none, unused, unused-same, unused-less, free, free-length}
+use Rattle.laws.proofs.Used.{Old, AllOld, Same, all-append, all-mem, among-append, mem-among, old-append, old-not-fresh, fresh-none, unused, unused-same, unused-plus, free, free-length}
 use Rattle.laws.proofs.Windows.{Below, below-old, below-drop, below-last, window-same, window-below}
 use Rattle.laws.proofs.Picks.{rowsOf, rows-length, oldestIds, a-row, fewer}
 
@@ -100,7 +100,7 @@ module _ (lim : ℕ → ℕ) (o : Options) (least : 1 ≤ o .min) (most : o .min
   -- a run that was taken is no fresh number
   unmet-runs : (u : SourceId → Bool) (s : Spec) → AllOld first (specUses s) → Unmet first o t u → Unmet first o t (also u s)
   unmet-runs u s old m =
-      record { at = λ f h n. ap₂ _||_ (m .at f h (unused-less u (λ x. among x (specUses s)) (oldestIds o t) n)) (fresh-none (specUses s) old h) }
+      record { at = λ f h n. ap₂ _||_ (m .at f h (and-left (unused u (oldestIds o t)) _ (rw (unused-plus u (λ x. among x (specUses s)) (oldestIds o t)) at n))) (fresh-none (specUses s) old h) }
 
   abbrev runSpec : ℕ → List ℕ → Spec
   runSpec i w = record { prefix = t .prefix; sources = map sortedRun (lastOf (o .max) (i ∷ w)); destination = last (i ∷ w) }

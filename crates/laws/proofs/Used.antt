@@ -2,7 +2,7 @@
 use Prim.Native.Nat.{ℕ, suc, _≤_, _<_}
 use mathlib.Core.Path.{_≡_, refl, sym, ap₂}
 use mathlib.Core.List.{List, [], _∷_, _++_, List·Memᴰ, List·Memᴰ·head, List·Memᴰ·tail}
-use mathlib.Core.Bool.{Bool, true, false, cond, _&&_, _||_, not, and-assoc, or-assoc, or-true, false≢true}
+use mathlib.Core.Bool.{Bool, true, false, cond, _&&_, _||_, not, and-assoc, or-assoc, or-true, and-false}
 use native.Mathlib.Omega.{arith}
 use lib.ListN.{length}
 use borrow.Author.Tests.{eq-eqb, ne-eqb}
@@ -88,16 +88,16 @@ unused-same (x ∷ xs) s o = ap₂ (λ (a b : Bool). not a && b) (s .at x (o .0)
 abbrev pub plus : (SourceId → Bool) → (SourceId → Bool) → SourceId → Bool
 plus u w x = u x || w x
 
-first-unused : (a b c d : Bool) → (c ≡ true → d ≡ true) → (not (a || b) && c) ≡ true → (not a && d) ≡ true
-first-unused true b c d k h = h
-first-unused false true c d k h = absurd (false≢true h)
-first-unused false false c d k h = k h
+neither : (a b c d : Bool) → (not (a || b) && (c && d)) ≡ ((not a && c) && (not b && d))
+neither true b c d = refl
+neither false true c d = sym (and-false c)
+neither false false c d = refl
 
--- what is unused was so before
-pub unused-less : (u w : SourceId → Bool) (xs : List SourceId) → unused (plus u w) xs ≡ true → unused u xs ≡ true
+-- unused of both is unused of each
+pub unused-plus : (u w : SourceId → Bool) (xs : List SourceId) → unused (plus u w) xs ≡ (unused u xs && unused w xs)
 unfolding all
-unused-less u w [] h = refl
-unused-less u w (x ∷ xs) h = first-unused (u x) (w x) (unused (plus u w) xs) (unused u xs) (unused-less u w xs) h
+unused-plus u w [] = refl
+unused-plus u w (x ∷ xs) = rw (unused-plus u w xs) (neither (u x) (w x) (unused u xs) (unused w xs))
 
 -- how many ids of a list are free
 unfoldable pub free : (SourceId → Bool) → List SourceId → ℕ
