@@ -11,3 +11,5 @@ pub mod Fresh
 pub mod Demand3
 pub mod PlanCall
 pub mod Fuel
+pub mod Kept
+pub mod Disjoint

@@ -18,7 +18,7 @@ module _ {A : Type 0} (p : A → Bool) where
   all-append [] ys = refl
   all-append (x ∷ xs) ys = rw (all-append xs ys) (sym (and-assoc (p x) (all p xs) (all p ys)))
 
-  any-append : (xs ys : List A) → any p (xs ++ ys) ≡ (any p xs || any p ys)
+  pub any-append : (xs ys : List A) → any p (xs ++ ys) ≡ (any p xs || any p ys)
   unfolding any
   any-append [] ys = refl
   any-append (x ∷ xs) ys = rw (any-append xs ys) (sym (or-assoc (p x) (any p xs) (any p ys)))

@@ -2,3 +2,4 @@
 pub mod Demand3
 pub mod PlanCall
 pub mod Fuel
+pub mod Disjoint
