@@ -13,3 +13,4 @@ pub mod PlanCall
 pub mod Fuel
 pub mod Kept
 pub mod Disjoint
+pub mod Shapes

@@ -32,6 +32,13 @@ distinct-apart (t ∷ ts) h =
     let rest = distinct eqb (map (λ x. x .prefix) ts) in
     (λ c m. none-same (t .prefix) ts (not-true later (and-left (not later) rest h)) m, distinct-apart ts (and-right (not later) rest h))
 
+-- so a tree is known by its prefix
+pub apart-same : {t c : Tree} {ts : List Tree} → Apart ts → List·Memᴰ t ts → List·Memᴰ c ts → c .prefix ≡ t .prefix → c ≡ t
+apart-same h (List·Memᴰ·head e) (List·Memᴰ·head q) p = q ∙ sym e
+apart-same {t} {c} h (List·Memᴰ·head e) (List·Memᴰ·tail n) p = absurd (h .0 c n (p ∙ ap (λ (x : Tree). x .prefix) e))
+apart-same {t} {c} h (List·Memᴰ·tail m) (List·Memᴰ·head q) p = absurd (h .0 t m (sym p ∙ ap (λ (x : Tree). x .prefix) q))
+apart-same h (List·Memᴰ·tail m) (List·Memᴰ·tail n) p = apart-same (h .1) m n p
+
 -- ---- one tree, put somewhere among others
 data Inserted (t : Tree) : List Tree → List Tree → Type 0 where
   at-front : {ts : List Tree} → Inserted t ts (t ∷ ts)

@@ -16,10 +16,10 @@ use Rattle.rules.specs.Chain.{heldBack}
 use Rattle.rules.specs.Windows.{passes, last, window}
 use Rattle.rules.specs.Pick.{Spec, specUses, also, lastRun, Picked, idsOf, sizesOf, l0SizesOf, oldest, takesRows, rowPick, runPick, pick, andOn, ownFirst, ownList}
 use Rattle.rules.proofs.Lookups.{and-left}
-use Rattle.laws.specs.Demand3.{setAside, aside}
+use Rattle.laws.specs.Demand3.{firstIsRow, aside}
 use Rattle.laws.proofs.Used.{Old, AllOld, Same, all-append, all-mem, among-append, mem-among, old-append, old-not-fresh, fresh-none, unused, unused-same, unused-plus, free, free-length}
 use Rattle.laws.proofs.Windows.{Below, below-old, below-drop, below-last, window-same, window-below}
-use Rattle.laws.proofs.Picks.{rowsOf, rows-length, oldestIds, a-row, fewer}
+use Rattle.laws.proofs.Picks.{rowsOf, rows-length, oldestIds, a-row, rows-first, fewer}
 
 -- a tree of which u is used gives the entries of a list, one each time it is asked, and then nothing, whatever fresh numbers
 -- from `first` on it is offered
@@ -35,15 +35,9 @@ views-old : (first : ℕ) (vs : List L0Row) → AllOld first (map viewId vs)
 views-old first [] = tt
 views-old first (v ∷ vs) = (tt, views-old first vs)
 
-module _ (o : Options) (t : Tree) (some-row : (x : SourceId) × List·Memᴰ x (oldestIds o t) × List·Memᴰ x (map viewId (t .l0))) where
-  -- the fresh number is set aside
-  aside-rows : (f g : ℕ) → aside (rowPick o f t .spec) ≡ aside (rowPick o g t .spec)
-  aside-rows f g = go (oldest o t) (some-row .1)
-    where
-      go : (vs : List L0Row) → List·Memᴰ (some-row .0) (map viewId vs) → _≡_ {A = Spec}
-          (record { prefix = t .prefix; sources = map viewId vs; destination = setAside (map viewId vs) f })
-          (record { prefix = t .prefix; sources = map viewId vs; destination = setAside (map viewId vs) g })
-      go (v ∷ vs) m = refl
+-- the fresh number is set aside
+aside-rows : (o : Options) (t : Tree) → firstIsRow (oldestIds o t) ≡ true → (f g : ℕ) → aside (rowPick o f t .spec) ≡ aside (rowPick o g t .spec)
+aside-rows o t h f g = rw h
 
 -- ---- so long as a tree's oldest rows are free, it uses no fresh number
 pub record Unmet (first : ℕ) (o : Options) (t : Tree) (u : SourceId → Bool) : Type 0 where
@@ -133,7 +127,7 @@ module _ (lim : ℕ → ℕ) (o : Options) (least : 1 ≤ o .min) (most : o .min
             rowPick o f t,
             refl,
             record {
-              spec = aside-rows o t (a-row lim o least most t enough) f g;
+              spec = aside-rows o t (rows-first (oldest o t) (a-row lim o least most t enough .1)) f g;
               fresh = omega arith;
               fresh′ = omega arith;
               used = same-rows s hf hg;

@@ -15,6 +15,7 @@ use Rattle.rules.specs.Chain.{heldBack}
 use Rattle.rules.specs.Windows.{passes, last, window}
 use Rattle.rules.specs.Pick.{specUses, also, Picked, idsOf, sizesOf, l0SizesOf, oldest, takesRows, rowPick, runPick, pick}
 use Rattle.rules.proofs.Lookups.{and-left, and-right}
+use Rattle.laws.specs.Demand3.{firstIsRow}
 use Rattle.laws.proofs.Used.{all-append, all-mem, mem-among, unused, free, free-lt}
 use Rattle.laws.proofs.Windows.{window-free}
 
@@ -83,6 +84,10 @@ module _ (lim : ℕ → ℕ) (o : Options) (u : SourceId → Bool) (f : ℕ) (t 
           (and-right (unused u (map sortedRun (i ∷ w))) _ whole)
 
 -- ---- a pick uses a row or a run of its tree
+
+-- where step 1 has a source, its spec shows it
+pub rows-first : {x : SourceId} (vs : List L0Row) → List·Memᴰ x (map viewId vs) → firstIsRow (map viewId vs) ≡ true
+rows-first (v ∷ vs) m = refl
 
 dropped-in : (j : ℕ) (l : List L0Row) → j < length l → (x : SourceId) × List·Memᴰ x (map viewId (drop j l)) × List·Memᴰ x (map viewId l)
 dropped-in j [] h = absurd (omega arith)

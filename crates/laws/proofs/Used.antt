@@ -29,6 +29,12 @@ module _ {A : Type 0} (p : A → Bool) where
   all-mem h (List·Memᴰ·head {x = y} {xs} e) = rw e (and-left (p y) (all p xs) h)
   all-mem h (List·Memᴰ·tail {x = y} {xs} m) = all-mem (and-right (p y) (all p xs) h) m
 
+  -- what holds of one holds of some
+  pub any-mem : {x : A} {xs : List A} → List·Memᴰ x xs → p x ≡ true → any p xs ≡ true
+  unfolding any
+  any-mem (List·Memᴰ·head {x = y} {xs} e) h = rw (← e, h)
+  any-mem (List·Memᴰ·tail {x = y} {xs} m) h = rw (any-mem m h) (or-true (p y))
+
 -- ---- ids in lists
 
 pub same-self : (x : SourceId) → sameId x x ≡ true
@@ -40,9 +46,7 @@ among-append x u w = any-append (λ y. sameId y x) u w
 
 -- a member is among them
 pub mem-among : {x : SourceId} {xs : List SourceId} → List·Memᴰ x xs → among x xs ≡ true
-unfolding any
-mem-among {x} (List·Memᴰ·head {x = y} {xs} e) = rw (← e, same-self x)
-mem-among {x} (List·Memᴰ·tail {x = y} {xs} m) = rw (mem-among m) (or-true (sameId y x))
+mem-among {x} m = any-mem (λ y. sameId y x) m (same-self x)
 
 -- ---- ids that are no fresh number
 

@@ -3,7 +3,7 @@
 use Prim.Native.Nat.{ℕ, _+_, _/_, _≤_, _<_, min, max}
 use mathlib.Core.Path.{_≡_}
 use mathlib.Core.List.{List, [], _∷_, map, List·Memᴰ}
-use mathlib.Core.Bool.{true}
+use mathlib.Core.Bool.{Bool, true, false, cond}
 use lib.Dec.{eqb}
 use lib.ListN.{length, take}
 use Rattle.rules.specs.declared.Options.{Options}
@@ -17,14 +17,18 @@ use Rattle.rules.specs.Plan.{Plan, firstFresh, freeSlots, planned, ownListOf}
 abbrev pub gets : Plan → Tree → List Spec
 gets p t = keep (λ s. eqb (s .prefix) (t .prefix)) (p .specs)
 
--- "fresh destination numbers aside": 0 in their place. A spec whose sources are L0 rows has one
-abbrev pub setAside : List SourceId → ℕ → ℕ
-setAside [] d = d
-setAside (sortedRun r ∷ xs) d = d
-setAside (sstView v ∷ xs) d = 0
+-- a spec of step 1: its sources are L0 rows, and its destination is a fresh number
+abbrev pub firstIsRow : List SourceId → Bool
+firstIsRow [] = false
+firstIsRow (sortedRun r ∷ xs) = false
+firstIsRow (sstView v ∷ xs) = true
 
+abbrev pub fromRows : Spec → Bool
+fromRows s = firstIsRow (s .sources)
+
+-- "fresh destination numbers aside": 0 in their place
 abbrev pub aside : Spec → Spec
-aside s = record { prefix = s .prefix; sources = s .sources; destination = setAside (s .sources) (s .destination) }
+aside s = record { prefix = s .prefix; sources = s .sources; destination = cond (fromRows s) 0 (s .destination) }
 
 -- the largest of some numbers, 0 for none
 abbrev pub largest : List ℕ → ℕ

@@ -3,3 +3,4 @@ pub mod Demand3
 pub mod PlanCall
 pub mod Fuel
 pub mod Disjoint
+pub mod Shapes
