@@ -14,10 +14,11 @@ use Rattle.rules.specs.Tables.{SourceId, Tree, Job, among}
 use Rattle.rules.specs.Windows.{usedIds}
 use Rattle.rules.specs.Pick.{Spec, specUses, also, Picked, pick, andOn, ownFirst, ownList}
 use Rattle.rules.specs.Plan.{State, withPick, firstFresh, freeSlots, ordered, start, planned, ownListOf}
-use Rattle.rules.proofs.Lookups.{and-left, and-right, or-left, or-right}
+use Rattle.rules.proofs.Lookups.{and-left, and-right}
 use Rattle.laws.specs.Disjoint.{isFree, sharing, Disjoint}
 use Rattle.laws.proofs.Used.{all-append, any-append, unused, plus, unused-plus}
 use Rattle.laws.proofs.Picks.{pick-prefix, pick-free}
+use Rattle.laws.proofs.Distinct.{distinct-last}
 use Rattle.laws.proofs.Kept.{call-keeps}
 
 module _ {A : Type 0} (p q : A → Bool) where
@@ -34,19 +35,6 @@ module _ {A : Type 0} (p q : A → Bool) where
 -- unused by a test: the test holds of none
 unused-any : (u : SourceId → Bool) (xs : List SourceId) → unused u xs ≡ true → any u xs ≡ false
 unused-any u xs h = all-none (λ x. not (u x)) u (λ x. not-true (u x)) xs h
-
--- one more entry that no other is the same as
-distinct-last : {A : Type 0} (same : A → A → Bool) (xs : List A) (y : A) → distinct same xs ≡ true → any (λ x. same x y) xs ≡ false → distinct same (xs ++ (y ∷ [])) ≡ true
-unfolding distinct any
-distinct-last same [] y h n = refl
-distinct-last same (x ∷ xs) y h n =
-    let rest = distinct same xs in
-    rw (
-      any-append (same x) xs (y ∷ []),
-      not-true (any (same x) xs) (and-left (not (any (same x) xs)) rest h),
-      or-left (same x y) (any (λ z. same z y) xs) n,
-    )
-    (distinct-last same xs y (and-right (not (any (same x) xs)) rest h) (or-right (same x y) (any (λ z. same z y) xs) n))
 
 -- ---- what the specs of a list use of tree k
 abbrev specsUse : List Spec → ℕ → SourceId → Bool

@@ -12,5 +12,7 @@ pub mod Demand3
 pub mod PlanCall
 pub mod Fuel
 pub mod Kept
+pub mod Distinct
 pub mod Disjoint
 pub mod Shapes
+pub mod NamesOnce

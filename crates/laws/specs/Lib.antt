@@ -4,3 +4,4 @@ pub mod PlanCall
 pub mod Fuel
 pub mod Disjoint
 pub mod Shapes
+pub mod NamesOnce
