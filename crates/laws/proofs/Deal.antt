@@ -3,7 +3,7 @@ use Prim.Native.Nat.{ℕ, zero, suc, _+_, _-_, _*_, _≤_, _<_, min}
 use mathlib.Core.Path.{_≡_, refl, sym, ap, _∙_}
 use mathlib.Core.Logic.{_⊎_, inl, inr, _≢_}
 use mathlib.Core.List.{List, [], _∷_, _++_, nil≢cons}
-use mathlib.Core.Bool.{true, false, cond}
+use mathlib.Core.Bool.{Bool, true, false, cond}
 use native.Mathlib.Omega.{arith}
 use lib.Dec.{eqb}
 use lib.ListN.{length, take, length-append, length-take}
@@ -98,6 +98,14 @@ module _ {A : Type 0} where
   length-rests (queue k (x ∷ l) ∷ qs) zero = refl
   length-rests (queue k (x ∷ l) ∷ qs) (suc s) = ap suc (length-rests qs s)
 
+-- the kept entries of two lists
+pub keep-append : {A : Type 0} (p : A → Bool) (xs ys : List A) → keep p (xs ++ ys) ≡ keep p xs ++ keep p ys
+unfolding keep
+keep-append p [] ys = refl
+keep-append p (x ∷ xs) ys =
+    rw (keep-append p xs ys)
+    (elim (p x) as (λ c. cond c (x ∷ (keep p xs ++ keep p ys)) (keep p xs ++ keep p ys) ≡ cond c (x ∷ keep p xs) (keep p xs) ++ keep p ys) [ true ↦ refl | false ↦ refl ])
+
 -- ---- who got what
 module _ {A : Type 0} (key : A → ℕ) where
   -- the entries with key k
@@ -105,11 +113,7 @@ module _ {A : Type 0} (key : A → ℕ) where
   of k xs = keep (λ x. eqb (key x) k) xs
 
   pub of-append : (k : ℕ) (xs ys : List A) → of k (xs ++ ys) ≡ of k xs ++ of k ys
-  unfolding keep
-  of-append k [] ys = refl
-  of-append k (x ∷ xs) ys =
-      rw (of-append k xs ys)
-      (elim (eqb (key x) k) as (λ b. cond b (x ∷ (of k xs ++ of k ys)) (of k xs ++ of k ys) ≡ cond b (x ∷ of k xs) (of k xs) ++ of k ys) [ true ↦ refl | false ↦ refl ])
+  of-append k xs ys = keep-append (λ x. eqb (key x) k) xs ys
 
   pub of-other : (k : ℕ) (x : A) (xs : List A) → key x ≢ k → of k (x ∷ xs) ≡ of k xs
   unfolding keep

@@ -65,6 +65,25 @@ module _ {A : Type 0} (same : A → A → Bool) where
   distinct-last xs y h n =
       distinct-append xs (y ∷ []) h refl (λ x z m k. subst (λ (w : A). same x w ≡ false) (sym (List·Memᴰ·eq-of-singleton k)) (any-none (λ w. same w y) n m))
 
+module _ {A : Type 0} (clash : A → A → Bool) where
+  -- a test that fails wherever the first does
+  pub distinct-weaker : (same : A → A → Bool) (xs : List A) → ((x y : A) → List·Memᴰ x xs → List·Memᴰ y xs → clash x y ≡ false → same x y ≡ false) → distinct clash xs ≡ true → distinct same xs ≡ true
+  unfolding distinct
+  distinct-weaker same [] a h = refl
+  distinct-weaker same (x ∷ xs) a h =
+      distinct-cons same x xs
+      (none-any (same x) xs (λ y m. a x y (List·Memᴰ·head refl) (List·Memᴰ·tail m) (any-none (clash x) (first-apart clash x xs h) m)))
+      (distinct-weaker same xs (λ y z m n. a y z (List·Memᴰ·tail m) (List·Memᴰ·tail n)) (rest-distinct clash x xs h))
+
+  -- two tests that both hold of none
+  pub distinct-either : (clash′ : A → A → Bool) (xs : List A) → distinct clash xs ≡ true → distinct clash′ xs ≡ true → distinct (λ x y. clash x y || clash′ x y) xs ≡ true
+  unfolding distinct
+  distinct-either clash′ [] h k = refl
+  distinct-either clash′ (x ∷ xs) h k =
+      distinct-cons (λ y z. clash y z || clash′ y z) x xs
+      (none-any (λ y. clash x y || clash′ x y) xs (λ y m. ap₂ _||_ (any-none (clash x) (first-apart clash x xs h) m) (any-none (clash′ x) (first-apart clash′ x xs k) m)))
+      (distinct-either clash′ xs (rest-distinct clash x xs h) (rest-distinct clash′ x xs k))
+
 module _ {A B : Type 0} (f : A → B) (same : B → B → Bool) (same′ : A → A → Bool) (is : (a b : A) → same (f a) (f b) ≡ same′ a b) where
   any-map : (x : A) (xs : List A) → any (same (f x)) (map f xs) ≡ any (same′ x) xs
   unfolding any

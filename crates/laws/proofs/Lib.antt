@@ -15,4 +15,5 @@ pub mod Kept
 pub mod Distinct
 pub mod Disjoint
 pub mod Shapes
+pub mod Sources
 pub mod NamesOnce

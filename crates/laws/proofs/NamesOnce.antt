@@ -1,147 +1,241 @@
--- No row is a source twice: not in one spec, whose sources are a part of the tree's rows; not in two of one tree, which share
--- nothing; and not in two trees, which have no row in common.
-use Prim.Native.Nat.{ℕ, _-_, _≤_}
+-- No destination twice: those of step 1 are fresh numbers that rise, and there are enough of them as each tree takes step 1 at
+-- most once; those of step 2 are sources.
+use Prim.Native.Nat.{ℕ, _+_, _≤_, _<_, min}
 use mathlib.Core.Path.{_≡_, refl, sym, ap, _∙_, subst}
 use mathlib.Core.Logic.{_⊎_, inl, inr}
-use mathlib.Core.List.{List, [], _∷_, _++_, map, map-append, List·Memᴰ, Memᴰ·append-left, Memᴰ·append-right, Memᴰ·of-map}
-use mathlib.Core.Bool.{Bool, true, false, false≢true}
+use mathlib.Core.List.{List, [], _∷_, _++_, map, List·Memᴰ, List·Memᴰ·head, List·Memᴰ·tail, List·Memᴰ·not-nil, List·Memᴰ·append-cases, List·Memᴰ·eq-of-singleton, Memᴰ·append-left, Memᴰ·append-right, Memᴰ·map}
+use mathlib.Core.Bool.{Bool, true, false, cond, _&&_, _||_, and-false, true≢false}
+use mathlib.Core.Option.{some, Option·some-injective}
 use native.Mathlib.Omega.{arith}
 use lib.Dec.{eqb}
-use lib.ListN.{length, take, drop, take-append-drop}
-use borrow.Author.Tests.{eq-eqb, eqb-true, eqb-false}
+use lib.ListN.{length, length-append}
+use borrow.Author.Tests.{ne-eqb, eq-eqb, le-leb}
 use Rattle.rules.specs.declared.Options.{Options}
-use Rattle.rules.specs.Lists.{distinct, concatMap}
-use Rattle.rules.specs.Tables.{Ulid, SourceId, sortedRun, sstView, L0Row, Run, Tree, Job, sameUlid, sameId, among, viewId}
-use Rattle.rules.specs.Lent.{l0Of, runsOf}
-use Rattle.rules.specs.Pick.{Spec, specUses, idsOf}
-use Rattle.rules.specs.Plan.{planned, ownListOf}
-use Rattle.rules.proofs.Lookups.{same-ulid}
+use Rattle.rules.specs.Lists.{keep, distinct, total, lastOf}
+use Rattle.rules.specs.Tables.{sortedRun, Tree, Job}
+use Rattle.rules.specs.Windows.{last}
+use Rattle.rules.specs.Pick.{Spec, lastRun, risen, Picked, oldest, idsOf, pick}
+use Rattle.rules.specs.Plan.{State, withPick, firstFresh, freeSlots, ordered, start, planned}
+use Rattle.rules.proofs.Lookups.{or-left, or-right}
+use Rattle.laws.specs.Demand3.{firstIsRow, fromRows}
 use Rattle.laws.specs.Disjoint.{sharing}
-use Rattle.laws.specs.Shapes.{OfRows, OfRuns, Made}
+use Rattle.laws.specs.Shapes.{OfRows, OfRuns}
 use Rattle.laws.specs.NamesOnce.{RowsOnce, NamesOnce}
-use Rattle.laws.proofs.Used.{same-self}
-use Rattle.laws.proofs.Distinct.{any-none, left-distinct, right-distinct, distinct-map, one-part, part-distinct, distinct-concat}
+use Rattle.laws.proofs.Deal.{of, keep-append}
+use Rattle.laws.proofs.Windows.{Below}
+use Rattle.laws.proofs.Picks.{Cases, takes-rows, takes-runs, pick-cases, a-row, rows-first, enough-rows}
+use Rattle.laws.proofs.Fresh.{committed-below}
+use Rattle.laws.proofs.Kept.{call-keeps}
+use Rattle.laws.proofs.Distinct.{none-any, distinct-last, distinct-weaker, distinct-either, distinct-map}
 use Rattle.laws.proofs.Disjoint.{disjoint}
-use Rattle.laws.proofs.Shapes.{shapes}
+use Rattle.laws.proofs.Shapes.{not-rows, shapes}
+use Rattle.laws.proofs.Sources.{plan-apart, own-sources, plan-sources}
 
-pub same-id : (x y : SourceId) → sameId x y ≡ true → x ≡ y
-same-id (sortedRun a) (sortedRun b) h = ap sortedRun (eqb-true a b h)
-same-id (sortedRun a) (sstView v) h = absurd (false≢true h)
-same-id (sstView u) (sortedRun b) h = absurd (false≢true h)
-same-id (sstView u) (sstView v) h = ap sstView (same-ulid u v h)
+-- the specs of step 1
+abbrev rowSpecs : List Spec → ℕ
+rowSpecs ss = length (keep fromRows ss)
 
--- ---- the rows of one tree, as ids
+-- two of them with one destination
+abbrev rowClash : Spec → Spec → Bool
+rowClash a b = fromRows a && (fromRows b && eqb (a .destination) (b .destination))
 
-pub views-distinct : (vs : List L0Row) → distinct sameUlid (map (λ v. v .view) vs) ≡ true → distinct sameId (map viewId vs) ≡ true
-views-distinct vs h =
-    let same : L0Row → L0Row → Bool = λ a b. sameUlid (a .view) (b .view) in
-    distinct-map viewId sameId same (λ a b. refl) vs ∙ sym (distinct-map (λ v. v .view) sameUlid same (λ a b. refl) vs) ∙ h
+-- ---- fresh numbers rise
 
-pub ids-distinct : (ids : List ℕ) → distinct eqb ids ≡ true → distinct sameId (map sortedRun ids) ≡ true
-ids-distinct ids h = distinct-map sortedRun sameId eqb (λ a b. refl) ids ∙ h
+record Rising (first : ℕ) (st : State) : Type 0 where
+  fresh : st .fresh ≡ min (first + rowSpecs (st .specs)) lastRun
+  within : first + rowSpecs (st .specs) ≤ lastRun → (s : Spec) → List·Memᴰ s (st .specs) → fromRows s ≡ true → (first ≤ s .destination) × (s .destination < first + rowSpecs (st .specs))
+  once : first + rowSpecs (st .specs) ≤ lastRun → distinct rowClash (st .specs) ≡ true
 
-module _ {o : Options} {t : Tree} {s : Spec} where
-  -- the sources of a spec are distinct where the tree's rows are
-  sources-distinct : Made o t s → distinct eqb (idsOf (t .runs)) ≡ true → distinct sameUlid (map (λ v. v .view) (t .l0)) ≡ true → distinct sameId (s .sources) ≡ true
-  sources-distinct made runs views = go (made .step)
+one-more : (ss : List Spec) (s : Spec) → fromRows s ≡ true → rowSpecs (ss ++ (s ∷ [])) ≡ rowSpecs ss + 1
+unfolding keep
+one-more ss s h = ap length (keep-append fromRows ss (s ∷ [])) ∙ rw h (length-append (keep fromRows ss) (s ∷ []))
+
+no-more : (ss : List Spec) (s : Spec) → fromRows s ≡ false → rowSpecs (ss ++ (s ∷ [])) ≡ rowSpecs ss
+unfolding keep
+no-more ss s h = ap length (keep-append fromRows ss (s ∷ [])) ∙ rw h (length-append (keep fromRows ss) [] ∙ omega arith)
+
+module _ (first : ℕ) (p : Picked) (st : State) (r : Rising first st) where
+  abbrev now : ℕ
+  now = rowSpecs (st .specs ++ (p .spec ∷ []))
+
+  -- a pick of step 1 takes the fresh number
+  rows-rise : fromRows (p .spec) ≡ true → p .spec .destination ≡ st .fresh → p .fresh ≡ risen (st .fresh) → Rising first (withPick (some p) st)
+  rows-rise f d n =
+      let more = one-more (st .specs) (p .spec) f in
+      record {
+        fresh = omega (arith, r .fresh);
+        within = λ h s m k. go h s k (List·Memᴰ·append-cases (st .specs) m);
+        once = λ h. distinct-last rowClash (st .specs) (p .spec) (r .once (omega arith)) (none-any (λ a. rowClash a (p .spec)) (st .specs) (λ a m. apart h a m (fromRows a) refl));
+      }
     where
-      go : OfRows o t s ⊎ OfRuns o t s → distinct sameId (s .sources) ≡ true
-      go (inl r) =
-          let k = length (t .l0) - o .max in
-          rw (r .sources)
-          (right-distinct sameId (map viewId (take k (t .l0))) (map viewId (drop k (t .l0)))
-          (rw (← map-append viewId (take k (t .l0)) (drop k (t .l0)), take-append-drop k (t .l0)) (views-distinct (t .l0) views)))
-      go (inr r) =
-          rw (r .sources)
-          (ids-distinct (r .ids) (left-distinct eqb (r .ids) (r .after) (right-distinct eqb (r .before) (r .ids ++ r .after) (rw (r .place) at runs))))
+      go : first + now ≤ lastRun → (s : Spec) → fromRows s ≡ true → List·Memᴰ s (st .specs) ⊎ List·Memᴰ s (p .spec ∷ []) → (first ≤ s .destination) × (s .destination < first + now)
+      go h s k (inl m) =
+          let more = one-more (st .specs) (p .spec) f in
+          let old = r .within (omega arith) s m k in
+          (omega arith, omega arith)
+      go h s k (inr m) =
+          let more = one-more (st .specs) (p .spec) f in
+          let same = ap (λ (x : Spec). x .destination) (List·Memᴰ·eq-of-singleton m) in
+          let at = r .fresh in
+          (omega arith, omega arith)
 
-  -- and each of them is a row or a run of the tree
-  source-of : {x : SourceId} → Made o t s → List·Memᴰ x (s .sources) → List·Memᴰ x (map viewId (t .l0)) ⊎ List·Memᴰ x (map sortedRun (idsOf (t .runs)))
-  source-of {x} made m = go (made .step)
+      apart : first + now ≤ lastRun → (a : Spec) → List·Memᴰ a (st .specs) → (c : Bool) → fromRows a ≡ c → (c && (fromRows (p .spec) && eqb (a .destination) (p .spec .destination))) ≡ false
+      apart h a m false e = refl
+      apart h a m true e =
+          let more = one-more (st .specs) (p .spec) f in
+          let old = r .within (omega arith) a m e in
+          let at = r .fresh in
+          rw (ne-eqb (a .destination) (p .spec .destination) (λ q. omega arith)) (and-false (fromRows (p .spec)))
+
+  -- one of step 2 leaves it
+  runs-stay : fromRows (p .spec) ≡ false → p .fresh ≡ st .fresh → Rising first (withPick (some p) st)
+  runs-stay f n =
+      let same = no-more (st .specs) (p .spec) f in
+      record {
+        fresh = omega (arith, r .fresh);
+        within = λ h s m k. go h s k (List·Memᴰ·append-cases (st .specs) m);
+        once = λ h. distinct-last rowClash (st .specs) (p .spec) (r .once (omega arith)) (none-any (λ a. rowClash a (p .spec)) (st .specs) (λ a m. rw f (and-false (fromRows a))));
+      }
     where
-      go : OfRows o t s ⊎ OfRuns o t s → List·Memᴰ x (map viewId (t .l0)) ⊎ List·Memᴰ x (map sortedRun (idsOf (t .runs)))
-      go (inl r) =
-          let k = length (t .l0) - o .max in
-          inl
-          (rw (← take-append-drop k (t .l0), map-append viewId (take k (t .l0)) (drop k (t .l0)))
-          (Memᴰ·append-right (map viewId (take k (t .l0))) (rw (r .sources) at m)))
-      go (inr r) =
-          inr
-          (rw (r .place, map-append sortedRun (r .before) (r .ids ++ r .after), map-append sortedRun (r .ids) (r .after))
-          (Memᴰ·append-right (map sortedRun (r .before)) (Memᴰ·append-left (map sortedRun (r .after)) (rw (r .sources) at m))))
+      go : first + now ≤ lastRun → (s : Spec) → fromRows s ≡ true → List·Memᴰ s (st .specs) ⊎ List·Memᴰ s (p .spec ∷ []) → (first ≤ s .destination) × (s .destination < first + now)
+      go h s k (inl m) =
+          let same = no-more (st .specs) (p .spec) f in
+          let old = r .within (omega arith) s m k in
+          (omega arith, omega arith)
+      go h s k (inr m) = absurd (true≢false (sym k ∙ ap fromRows (List·Memᴰ·eq-of-singleton m) ∙ f))
 
--- ---- two specs of one tree
-unshared : (s r : Spec) → sharing s r ≡ false → s .prefix ≡ r .prefix → {x y : SourceId} → List·Memᴰ x (s .sources) → List·Memᴰ y (r .sources) → sameId x y ≡ false
-unshared s r h e {x} {y} m n =
-    any-none (λ z. sameId z y)
-    (any-none (λ z. among z (specUses s)) (rw (eq-eqb (s .prefix) (r .prefix) e) at h) (Memᴰ·append-left (sortedRun (r .destination) ∷ []) n))
-    (Memᴰ·append-left (sortedRun (s .destination) ∷ []) m)
+-- ---- as many specs of step 1 as trees, at most
 
--- ---- two trees
-map-concat : {A B C : Type 0} (g : B → C) (f : A → List B) (xs : List A) → map g (concatMap f xs) ≡ concatMap (λ x. map g (f x)) xs
-unfolding concatMap
-map-concat g f [] = refl
-map-concat {C = C} g f (x ∷ xs) = map-append g (f x) (concatMap f xs) ∙ ap (λ (r : List C). map g (f x) ++ r) (map-concat g f xs)
+total-le : (g h : Tree → ℕ) → ((t : Tree) → g t ≤ h t) → (ts : List Tree) → total (map g ts) ≤ total (map h ts)
+unfolding total
+total-le g h a [] = omega arith
+total-le g h a (t ∷ ts) = omega (arith, a t, total-le g h a ts)
 
-view-no-run : {x : SourceId} (vs : List L0Row) (ids : List ℕ) → List·Memᴰ x (map viewId vs) → List·Memᴰ x (map sortedRun ids) → ⊥
-view-no-run {x} vs ids a b = no (Memᴰ·of-map viewId vs a .2) (Memᴰ·of-map sortedRun ids b .2)
+total-lt : (g h : Tree → ℕ) → ((t : Tree) → g t ≤ h t) → {t : Tree} {ts : List Tree} → List·Memᴰ t ts → g t < h t → total (map g ts) < total (map h ts)
+unfolding total
+total-lt g h a {t} (List·Memᴰ·head {x = c} {xs} e) l = let k : g c < h c = rw (← e) l in omega (arith, total-le g h a xs)
+total-lt g h a (List·Memᴰ·tail {x = c} m) l = omega (arith, a c, total-lt g h a m l)
+
+total-ones : (g : Tree → ℕ) (ts : List Tree) → ((t : Tree) → List·Memᴰ t ts → g t ≤ 1) → total (map g ts) ≤ length ts
+unfolding total
+total-ones g [] h = omega arith
+total-ones g (t ∷ ts) h = omega (arith, h t (List·Memᴰ·head refl), total-ones g ts (λ c m. h c (List·Memᴰ·tail m)))
+
+-- the specs of step 1 that tree t gets
+abbrev rowSpecsOf : List Spec → Tree → ℕ
+rowSpecsOf ss t = rowSpecs (of (λ s. s .prefix) (t .prefix) ss)
+
+rows-grow : (s : Spec) (ss : List Spec) (t : Tree) → rowSpecsOf ss t ≤ rowSpecsOf (s ∷ ss) t
+unfolding keep
+rows-grow s ss t = go (eqb (s .prefix) (t .prefix)) (fromRows s) refl
   where
-    no : {u : Ulid} {i : ℕ} → sstView u ≡ x → sortedRun i ≡ x → ⊥
-    no p q = let z : _≡_ {A = ℕ} 0 1 = cc in omega arith
+    go : (c d : Bool) → fromRows s ≡ d → rowSpecsOf ss t ≤ rowSpecs (cond c (s ∷ of (λ r. r .prefix) (t .prefix) ss) (of (λ r. r .prefix) (t .prefix) ss))
+    go false d e = omega arith
+    go true false e = rw e (omega arith)
+    go true true e = rw e (omega arith)
 
-module _ {ts : List Tree} (once : RowsOnce ts) where
-  all-views : distinct sameId (concatMap (λ t. map viewId (t .l0)) ts) ≡ true
-  all-views = rw (← map-concat viewId (λ t. t .l0) ts) (views-distinct (l0Of ts) (once .views))
+rows-by-tree : (ts : List Tree) (ss : List Spec) → ((s : Spec) → List·Memᴰ s ss → (t : Tree) × List·Memᴰ t ts × (s .prefix ≡ t .prefix)) → rowSpecs ss ≤ total (map (rowSpecsOf ss) ts)
+unfolding keep
+rows-by-tree ts [] h = omega arith
+rows-by-tree ts (s ∷ ss) h = go (fromRows s) refl (rows-by-tree ts ss (λ r m. h r (List·Memᴰ·tail m)))
+  where
+    go : (d : Bool) → fromRows s ≡ d → rowSpecs ss ≤ total (map (rowSpecsOf ss) ts) → length (cond d (s ∷ keep fromRows ss) (keep fromRows ss)) ≤ total (map (rowSpecsOf (s ∷ ss)) ts)
+    go false e ih = omega (arith, total-le (rowSpecsOf ss) (rowSpecsOf (s ∷ ss)) (rows-grow s ss) ts)
+    go true e ih =
+        let x = h s (List·Memᴰ·head refl) in
+        let mine : rowSpecsOf ss (x .0) < rowSpecsOf (s ∷ ss) (x .0) = rw (eq-eqb (s .prefix) (x .0 .prefix) (x .2), e) (omega arith) in
+        omega (arith, total-lt (rowSpecsOf ss) (rowSpecsOf (s ∷ ss)) (rows-grow s ss) (x .1) mine)
 
-  all-runs : distinct sameId (concatMap (λ t. map sortedRun (idsOf (t .runs))) ts) ≡ true
-  all-runs =
-      rw (← map-concat sortedRun (λ t. idsOf (t .runs)) ts, ← map-concat (λ (r : Run). r .id) (λ t. t .runs) ts) (ids-distinct (idsOf (runsOf ts)) (once .runs))
+-- ---- all together
 
-  -- a row or run belongs to one tree
-  one-tree : {t c : Tree} {x : SourceId} → List·Memᴰ t ts → List·Memᴰ c ts
-      → List·Memᴰ x (map viewId (t .l0)) ⊎ List·Memᴰ x (map sortedRun (idsOf (t .runs)))
-      → List·Memᴰ x (map viewId (c .l0)) ⊎ List·Memᴰ x (map sortedRun (idsOf (c .runs))) → t ≡ c
-  one-tree m n (inl a) (inl b) = one-part (λ t. map viewId (t .l0)) sameId same-self all-views m n a b
-  one-tree m n (inr a) (inr b) = one-part (λ t. map sortedRun (idsOf (t .runs))) sameId same-self all-runs m n a b
-  one-tree {t} {c} m n (inl a) (inr b) = absurd (view-no-run (t .l0) (idsOf (c .runs)) a b)
-  one-tree {t} {c} m n (inr a) (inl b) = absurd (view-no-run (c .l0) (idsOf (t .runs)) b a)
+-- the last id is one of them
+last-mem : (ids : List ℕ) → 1 ≤ length ids → List·Memᴰ (last ids) ids
+unfolding last
+last-mem [] h = absurd (omega arith)
+last-mem (i ∷ []) h = List·Memᴰ·head refl
+last-mem (i ∷ (j ∷ ids)) h = List·Memᴰ·tail (last-mem (j ∷ ids) (omega arith))
+
+below-mem : {first i : ℕ} {ids : List ℕ} → Below first ids → List·Memᴰ i ids → i < first
+below-mem {first} b (List·Memᴰ·head e) = rw e (b .0)
+below-mem b (List·Memᴰ·tail m) = below-mem (b .1) m
 
 module _ (lim : ℕ → ℕ) (o : Options) (least : 1 ≤ o .min) (most : o .min ≤ o .max) (ts : List Tree) (js : List Job) where
+  pick-rises : (t : Tree) (p : Picked) (st : State) → pick lim o (st .used (t .prefix)) (st .fresh) t ≡ some p → Rising (firstFresh ts js) st → Rising (firstFresh ts js) (withPick (some p) st)
+  pick-rises t p st e r = go (pick-cases lim o (st .used (t .prefix)) (st .fresh) t p e)
+    where
+      go : Cases lim o (st .used (t .prefix)) (st .fresh) t p → Rising (firstFresh ts js) (withPick (some p) st)
+      go (takes-rows h q) =
+          rows-rise (firstFresh ts js) p st r
+          (rw q (rows-first (oldest o t) (a-row lim o least most t (enough-rows lim o least most t (st .used (t .prefix)) (st .fresh) h) .1)))
+          (ap (λ (x : Picked). x .spec .destination) q)
+          (ap (λ (x : Picked). x .fresh) q)
+      go (takes-runs i w k q) =
+          let same = Option·some-injective _ _ q in
+          runs-stay (firstFresh ts js) p st r (not-rows (p .spec) (lastOf (o .max) (i ∷ w)) (ap (λ (x : Picked). x .spec .sources) same)) (ap (λ (x : Picked). x .fresh) same)
+
   abbrev specs : List Spec
   specs = planned lim o ts js .specs
 
-  -- two specs of a plan that share nothing have no source in common
-  plan-apart : RowsOnce ts → (s r : Spec) → List·Memᴰ s specs → List·Memᴰ r specs → sharing s r ≡ false → (x y : SourceId) → List·Memᴰ x (s .sources) → List·Memᴰ y (r .sources) → sameId x y ≡ false
-  plan-apart once s r a b h x y m n = go (eqb (s .prefix) (r .prefix)) refl (sameId x y) refl
-    where
-      p : (t : Tree) × List·Memᴰ t ts × Made o t s
-      p = shapes lim o least most ts js .made s a
+  few : RowsOnce ts → rowSpecs specs ≤ length ts
+  few once =
+      let s = shapes lim o least most ts js in
+      omega (
+        arith,
+        rows-by-tree ts specs (λ r m. let x = s .made r m in (x .0, x .1, x .2 .prefix)),
+        total-ones (rowSpecsOf specs) ts (s .rowsOnce (once .prefixes)),
+      )
 
-      q : (t : Tree) × List·Memᴰ t ts × Made o t r
-      q = shapes lim o least most ts js .made r b
+  start-rises : firstFresh ts js ≤ lastRun → Rising (firstFresh ts js) (start o ts js)
+  unfolding keep distinct
+  start-rises h = record { fresh = omega arith; within = λ k s m. absurd (List·Memᴰ·not-nil m); once = λ k. refl }
 
-      go : (c : Bool) → eqb (s .prefix) (r .prefix) ≡ c → (d : Bool) → sameId x y ≡ d → d ≡ false
-      go c e false f = refl
-      go true e true f = sym f ∙ unshared s r h (eqb-true (s .prefix) (r .prefix) e) m n
-      go false e true f =
-          let here = source-of (p .2) m in
-          let there = source-of (q .2) (subst (λ (z : SourceId). List·Memᴰ z (r .sources)) (sym (same-id x y f)) n) in
-          let same = ap (λ (t : Tree). t .prefix) (one-tree once (p .1) (q .1) here there) in
-          absurd (eqb-false (s .prefix) (r .prefix) e (p .2 .prefix ∙ same ∙ sym (q .2 .prefix)))
+  risen-end : firstFresh ts js ≤ lastRun → (end : State) × Rising (firstFresh ts js) end × (specs ≡ end .specs)
+  unfolding planned
+  risen-end h = call-keeps lim o (ordered ts) (Rising (firstFresh ts js)) (λ t p st m. pick-rises t p st) (freeSlots o js) 0 (start o ts js) (start-rises h)
+
+  module _ (once : RowsOnce ts) (room : firstFresh ts js + length ts ≤ lastRun) where
+    end : (end : State) × Rising (firstFresh ts js) end × (specs ≡ end .specs)
+    end = risen-end (omega arith)
+
+    enough : firstFresh ts js + rowSpecs (end .0 .specs) ≤ lastRun
+    enough = rw (← end .2) (omega (arith, few once))
+
+    -- a destination of step 2 is a source, and below the first fresh number
+    run-destination : (s : Spec) → List·Memᴰ s specs → fromRows s ≡ false → List·Memᴰ (sortedRun (s .destination)) (s .sources) × (s .destination < firstFresh ts js)
+    run-destination s m f = let x = shapes lim o least most ts js .made s m in go (x .0) (x .1) (x .2 .step)
+      where
+        go : (t : Tree) → List·Memᴰ t ts → OfRows o t s ⊎ OfRuns o t s → List·Memᴰ (sortedRun (s .destination)) (s .sources) × (s .destination < firstFresh ts js)
+        go t k (inl r) =
+            let rows = rows-first (oldest o t) (a-row lim o least most t (le-leb (o .min) (length (t .l0)) (r .enough)) .1) in
+            absurd (true≢false (sym rows ∙ sym (ap firstIsRow (r .sources)) ∙ f))
+        go t k (inr r) =
+            let in-ids = last-mem (r .ids) (r .least) in (
+              rw (r .destination, r .sources) (Memᴰ·map sortedRun in-ids),
+              rw (r .destination)
+                  (below-mem {ids = idsOf (t .runs)} (committed-below ts js room t k) (rw (r .place) (Memᴰ·append-right (r .before) (Memᴰ·append-left (r .after) in-ids)))),
+            )
+
+    row-destination : (s : Spec) → List·Memᴰ s specs → fromRows s ≡ true → firstFresh ts js ≤ s .destination
+    row-destination s m f = end .1 .within enough s (subst (List·Memᴰ s) (end .2) m) f .0
+
+    -- so no two specs have one
+    apart : (s r : Spec) → List·Memᴰ s specs → List·Memᴰ r specs → (sharing s r || rowClash s r) ≡ false → eqb (s .destination) (r .destination) ≡ false
+    apart s r m n h = go (fromRows s) refl (fromRows r) refl
+      where
+        go : (c : Bool) → fromRows s ≡ c → (d : Bool) → fromRows r ≡ d → eqb (s .destination) (r .destination) ≡ false
+        go true e true f = rw (e, f) at (or-right (sharing s r) (rowClash s r) h)
+        go true e false f = ne-eqb (s .destination) (r .destination) (λ q. omega (arith, row-destination s m e, run-destination r n f .1))
+        go false e true f = ne-eqb (s .destination) (r .destination) (λ q. omega (arith, run-destination s m e .1, row-destination r n f))
+        go false e false f =
+            plan-apart lim o least most ts js once s r m n (or-left (sharing s r) (rowClash s r) h) (sortedRun (s .destination)) (sortedRun (r .destination))
+            (run-destination s m e .0) (run-destination r n f .0)
+
+    destinations-once : distinct eqb (map (λ s. s .destination) specs) ≡ true
+    destinations-once =
+        let same : Spec → Spec → Bool = λ a b. eqb (a .destination) (b .destination) in
+        distinct-map (λ s. s .destination) eqb same (λ a b. refl) specs
+        ∙ distinct-weaker (λ a b. sharing a b || rowClash a b) same specs apart
+        (distinct-either sharing rowClash specs (disjoint lim o ts js .once) (rw (end .2) (end .1 .once enough)))
 
   pub names-once : NamesOnce lim o ts js
-  names-once = record {
-    own = λ t runs views.
-        let made = shapes lim o least most ts js .ownMade t in
-        distinct-concat (λ s. s .sources) sameId (ownListOf lim o ts js t) (λ s m. sources-distinct (made s m) runs views) sharing (disjoint lim o ts js .ownOnce t)
-        (λ s r m n h x y. unshared s r h (made s m .prefix ∙ sym (made r n .prefix)));
-    plan = λ once.
-        distinct-concat (λ s. s .sources) sameId specs (λ s m. one-spec once s m) sharing (disjoint lim o ts js .once) (plan-apart once);
-  }
-    where
-      one-spec : RowsOnce ts → (s : Spec) → List·Memᴰ s specs → distinct sameId (s .sources) ≡ true
-      one-spec once s m =
-          let p = shapes lim o least most ts js .made s m in
-          let runs = rw (map-concat (λ (r : Run). r .id) (λ t. t .runs) ts) at (once .runs) in
-          let views = rw (map-concat (λ (v : L0Row). v .view) (λ t. t .l0) ts) at (once .views) in
-          sources-distinct (p .2) (part-distinct (λ t. idsOf (t .runs)) eqb runs (p .1)) (part-distinct (λ t. map (λ v. v .view) (t .l0)) sameUlid views (p .1))
+  names-once = record { own = own-sources lim o least most ts js; plan = plan-sources lim o least most ts js; destinations = destinations-once }

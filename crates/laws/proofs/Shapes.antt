@@ -61,6 +61,11 @@ drop-last (suc k) [] h = absurd (omega arith)
 drop-last (suc k) (i ∷ []) h = absurd (omega arith)
 drop-last (suc k) (i ∷ (j ∷ w)) h = drop-last k (j ∷ w) (omega arith)
 
+-- a spec with runs for sources has no rows
+pub not-rows : (s : Spec) (ids : List ℕ) → s .sources ≡ map sortedRun ids → fromRows s ≡ false
+not-rows s [] e = rw e
+not-rows s (i ∷ ids) e = rw e
+
 -- ---- specs of tree k from L0 rows that have an id in common
 module _ (k : ℕ) (x : SourceId) where
   abbrev rowsOfK : List Spec → List Spec
@@ -164,13 +169,9 @@ module _ (lim : ℕ → ℕ) (o : Options) (least : 1 ≤ o .min) (most : o .min
         let x = plan-made s n in
         go (x .2 .step) (apart-same d m (x .1) (sym (x .2 .prefix) ∙ p))
       where
-        no-run : (ids : List ℕ) → s .sources ≡ map sortedRun ids → fromRows s ≡ false
-        no-run [] e = rw e
-        no-run (i ∷ ids) e = rw e
-
         go : {c : Tree} → OfRows o c s ⊎ OfRuns o c s → c ≡ t → OfRows o t s
         go (inl r) e = subst (λ (y : Tree). OfRows o y s) e r
-        go (inr r) e = absurd (true≢false (sym f ∙ no-run (r .ids) (r .sources)))
+        go (inr r) e = absurd (true≢false (sym f ∙ not-rows s (r .ids) (r .sources)))
 
     rows-once : Apart ts → (t : Tree) → List·Memᴰ t ts → length (keep fromRows (gets (planned lim o ts js) t)) ≤ 1
     rows-once d t m = go (leb (o .min) (length (t .l0))) refl
