@@ -1,5 +1,5 @@
 -- Demand 3 is proved in two halves that meet in Passes: a tree's picks follow its own list (Used to Own), and dealing from
--- lists in turns has the totals and shares that are asked for (Deal).
+-- lists in turns has the totals and shares that are asked for (Deal). What else holds of plans is kept by every pick (Kept).
 pub mod Used
 pub mod Windows
 pub mod Picks
@@ -9,7 +9,6 @@ pub mod Order
 pub mod Passes
 pub mod Fresh
 pub mod Demand3
-pub mod PlanCall
 pub mod Fuel
 pub mod Kept
 pub mod Distinct
@@ -17,3 +16,4 @@ pub mod Disjoint
 pub mod Shapes
 pub mod Sources
 pub mod NamesOnce
+pub mod PlanCall

@@ -1,21 +1,24 @@
--- Demand 3 of the public planning call: where the call is not refused, on whatever slices it is lent.
+-- Demand 3 of the public planning call, and what the call proposes: wherever it is not refused, whatever slices it is lent.
 use Prim.Native.Nat.{ℕ, _+_, _/_, _≤_, _<_, min}
 use mathlib.Core.Path.{_≡_}
 use mathlib.Core.List.{List, map, List·Memᴰ}
 use mathlib.Core.Bool.{true}
+use lib.Dec.{eqb}
 use lib.ListN.{length, take}
 use Rattle.rules.specs.declared.Options.{Options}
 use Rattle.rules.specs.declared.PlanAnswer.the-variants.{Planned}
-use Rattle.rules.specs.Lists.{total}
-use Rattle.rules.specs.Tables.{sortedRun, Tree, among}
+use Rattle.rules.specs.Lists.{distinct, total}
+use Rattle.rules.specs.Tables.{sortedRun, Tree, sameId, among}
 use Rattle.rules.specs.Lent.{LentTrees, LentJobs, treesOf, jobsOf}
 use Rattle.rules.specs.Limit.{limitOf}
 use Rattle.rules.specs.Windows.{usedIds}
 use Rattle.rules.specs.Pick.{Spec, lastRun}
 use Rattle.rules.specs.Plan.{Plan, firstFresh, freeSlots, planned, ownListOf}
-use Rattle.rules.specs.Planning.{LentPlan, planRefusal, layPlan}
+use Rattle.rules.specs.Planning.{LentPlan, planRefusal, specSources, layPlan}
 use Rattle.rules.specs.Calls.{planCall}
 use Rattle.laws.specs.Demand3.{gets, aside, largest}
+use Rattle.laws.specs.Disjoint.{Disjoint}
+use Rattle.laws.specs.Shapes.{Shapes}
 
 -- the plan that the call is to hand back
 abbrev pub planOf : Options → LentTrees → LentJobs → Plan
@@ -49,3 +52,14 @@ pub record Demand3Call (o : Options) (t : LentTrees) (j : LentJobs) (p : LentPla
   -- (c) a tree with an own list of length L gets at least min(L, F / T rounded down), whatever the other trees hold
   pub share : (x : Tree) → List·Memᴰ x (treesOf t) →
       min (length (ownOf o t j x)) (freeSlots o (jobsOf j) / t .count) ≤ length (gets (planOf o t j) x)
+
+-- what an accepted call proposes
+pub record Proposed (o : Options) (t : LentTrees) (j : LentJobs) : Type 0 where
+  -- each spec is of step 1 or of step 2, for one of the trees, and a tree takes step 1 at most once
+  pub shapes : Shapes (limitOf (o .threshold)) o (treesOf t) (jobsOf j)
+  -- it uses nothing that active jobs of its tree use, and no two of one tree use one thing
+  pub disjoint : Disjoint (limitOf (o .threshold)) o (treesOf t) (jobsOf j)
+  -- no row or run is a source twice
+  pub sources : distinct sameId (specSources (planOf o t j .specs)) ≡ true
+  -- where fresh numbers do not stop, no two specs have one destination
+  pub destinations : firstFresh (treesOf t) (jobsOf j) + t .count ≤ lastRun → distinct eqb (map (λ s. s .destination) (planOf o t j .specs)) ≡ true
