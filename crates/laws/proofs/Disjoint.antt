@@ -19,7 +19,7 @@ use Rattle.laws.specs.Disjoint.{isFree, sharing, Disjoint}
 use Rattle.laws.proofs.Used.{all-append, any-append, unused, plus, unused-plus}
 use Rattle.laws.proofs.Picks.{pick-prefix, pick-free}
 use Rattle.laws.proofs.Distinct.{distinct-last}
-use Rattle.laws.proofs.Kept.{call-keeps}
+use Rattle.laws.proofs.Passes.{call-keeps}
 
 module _ {A : Type 0} (p q : A → Bool) where
   all-weaker : ((x : A) → p x ≡ true → q x ≡ true) → (xs : List A) → all p xs ≡ true → all q xs ≡ true

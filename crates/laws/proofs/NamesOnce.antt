@@ -1,110 +1,36 @@
 -- No destination twice: those of step 1 are fresh numbers that rise, and there are enough of them as each tree takes step 1 at
 -- most once; those of step 2 are sources.
-use Prim.Native.Nat.{ℕ, _+_, _≤_, _<_, min}
+use Prim.Native.Nat.{ℕ, _+_, _≤_, _<_}
 use mathlib.Core.Path.{_≡_, refl, sym, ap, _∙_, subst}
 use mathlib.Core.Logic.{_⊎_, inl, inr}
-use mathlib.Core.List.{List, [], _∷_, _++_, map, List·Memᴰ, List·Memᴰ·head, List·Memᴰ·tail, List·Memᴰ·not-nil, List·Memᴰ·append-cases, List·Memᴰ·eq-of-singleton, Memᴰ·append-left, Memᴰ·append-right, Memᴰ·map}
-use mathlib.Core.Bool.{Bool, true, false, cond, _&&_, _||_, and-false, true≢false}
-use mathlib.Core.Option.{some, Option·some-injective}
+use mathlib.Core.List.{List, [], _∷_, map, List·Memᴰ, List·Memᴰ·head, List·Memᴰ·tail, Memᴰ·append-left, Memᴰ·append-right, Memᴰ·map}
+use mathlib.Core.Bool.{Bool, true, false, cond, _||_, true≢false}
 use native.Mathlib.Omega.{arith}
 use lib.Dec.{eqb}
-use lib.ListN.{length, length-append}
+use lib.ListN.{length}
 use borrow.Author.Tests.{ne-eqb, eq-eqb, le-leb}
 use Rattle.rules.specs.declared.Options.{Options}
-use Rattle.rules.specs.Lists.{keep, distinct, total, lastOf}
+use Rattle.rules.specs.Lists.{keep, distinct, total}
 use Rattle.rules.specs.Tables.{sortedRun, Tree, Job}
 use Rattle.rules.specs.Windows.{last}
-use Rattle.rules.specs.Pick.{Spec, lastRun, risen, Picked, oldest, idsOf, pick}
-use Rattle.rules.specs.Plan.{State, withPick, firstFresh, freeSlots, ordered, start, planned}
+use Rattle.rules.specs.Pick.{Spec, lastRun, oldest, idsOf}
+use Rattle.rules.specs.Plan.{State, firstFresh, freeSlots, ordered, start, planned}
 use Rattle.rules.proofs.Lookups.{or-left, or-right}
 use Rattle.laws.specs.Demand3.{firstIsRow, fromRows}
 use Rattle.laws.specs.Disjoint.{sharing}
 use Rattle.laws.specs.Shapes.{OfRows, OfRuns}
 use Rattle.laws.specs.NamesOnce.{RowsOnce, NamesOnce}
-use Rattle.laws.proofs.Deal.{of, keep-append}
+use Rattle.laws.proofs.Deal.{of}
 use Rattle.laws.proofs.Windows.{Below}
-use Rattle.laws.proofs.Picks.{Cases, takes-rows, takes-runs, pick-cases, a-row, rows-first, enough-rows}
-use Rattle.laws.proofs.Fresh.{committed-below}
-use Rattle.laws.proofs.Kept.{call-keeps}
-use Rattle.laws.proofs.Distinct.{none-any, distinct-last, distinct-weaker, distinct-either, distinct-map}
+use Rattle.laws.proofs.Picks.{a-row, rows-first}
+use Rattle.laws.proofs.Fresh.{committed-below, rowSpecs, rowClash, Rising, pick-rises, start-rises}
+use Rattle.laws.proofs.Passes.{call-keeps}
+use Rattle.laws.proofs.Distinct.{distinct-weaker, distinct-either, distinct-map}
 use Rattle.laws.proofs.Disjoint.{disjoint}
-use Rattle.laws.proofs.Shapes.{not-rows, shapes}
+use Rattle.laws.proofs.Shapes.{shapes}
 use Rattle.laws.proofs.Sources.{plan-apart, own-sources, plan-sources}
 
--- the specs of step 1
-abbrev rowSpecs : List Spec → ℕ
-rowSpecs ss = length (keep fromRows ss)
-
--- two of them with one destination
-abbrev rowClash : Spec → Spec → Bool
-rowClash a b = fromRows a && (fromRows b && eqb (a .destination) (b .destination))
-
--- ---- fresh numbers rise
-
-record Rising (first : ℕ) (st : State) : Type 0 where
-  fresh : st .fresh ≡ min (first + rowSpecs (st .specs)) lastRun
-  within : first + rowSpecs (st .specs) ≤ lastRun → (s : Spec) → List·Memᴰ s (st .specs) → fromRows s ≡ true → (first ≤ s .destination) × (s .destination < first + rowSpecs (st .specs))
-  once : first + rowSpecs (st .specs) ≤ lastRun → distinct rowClash (st .specs) ≡ true
-
-one-more : (ss : List Spec) (s : Spec) → fromRows s ≡ true → rowSpecs (ss ++ (s ∷ [])) ≡ rowSpecs ss + 1
-unfolding keep
-one-more ss s h = ap length (keep-append fromRows ss (s ∷ [])) ∙ rw h (length-append (keep fromRows ss) (s ∷ []))
-
-no-more : (ss : List Spec) (s : Spec) → fromRows s ≡ false → rowSpecs (ss ++ (s ∷ [])) ≡ rowSpecs ss
-unfolding keep
-no-more ss s h = ap length (keep-append fromRows ss (s ∷ [])) ∙ rw h (length-append (keep fromRows ss) [] ∙ omega arith)
-
-module _ (first : ℕ) (p : Picked) (st : State) (r : Rising first st) where
-  abbrev now : ℕ
-  now = rowSpecs (st .specs ++ (p .spec ∷ []))
-
-  -- a pick of step 1 takes the fresh number
-  rows-rise : fromRows (p .spec) ≡ true → p .spec .destination ≡ st .fresh → p .fresh ≡ risen (st .fresh) → Rising first (withPick (some p) st)
-  rows-rise f d n =
-      let more = one-more (st .specs) (p .spec) f in
-      record {
-        fresh = omega (arith, r .fresh);
-        within = λ h s m k. go h s k (List·Memᴰ·append-cases (st .specs) m);
-        once = λ h. distinct-last rowClash (st .specs) (p .spec) (r .once (omega arith)) (none-any (λ a. rowClash a (p .spec)) (st .specs) (λ a m. apart h a m (fromRows a) refl));
-      }
-    where
-      go : first + now ≤ lastRun → (s : Spec) → fromRows s ≡ true → List·Memᴰ s (st .specs) ⊎ List·Memᴰ s (p .spec ∷ []) → (first ≤ s .destination) × (s .destination < first + now)
-      go h s k (inl m) =
-          let more = one-more (st .specs) (p .spec) f in
-          let old = r .within (omega arith) s m k in
-          (omega arith, omega arith)
-      go h s k (inr m) =
-          let more = one-more (st .specs) (p .spec) f in
-          let same = ap (λ (x : Spec). x .destination) (List·Memᴰ·eq-of-singleton m) in
-          let at = r .fresh in
-          (omega arith, omega arith)
-
-      apart : first + now ≤ lastRun → (a : Spec) → List·Memᴰ a (st .specs) → (c : Bool) → fromRows a ≡ c → (c && (fromRows (p .spec) && eqb (a .destination) (p .spec .destination))) ≡ false
-      apart h a m false e = refl
-      apart h a m true e =
-          let more = one-more (st .specs) (p .spec) f in
-          let old = r .within (omega arith) a m e in
-          let at = r .fresh in
-          rw (ne-eqb (a .destination) (p .spec .destination) (λ q. omega arith)) (and-false (fromRows (p .spec)))
-
-  -- one of step 2 leaves it
-  runs-stay : fromRows (p .spec) ≡ false → p .fresh ≡ st .fresh → Rising first (withPick (some p) st)
-  runs-stay f n =
-      let same = no-more (st .specs) (p .spec) f in
-      record {
-        fresh = omega (arith, r .fresh);
-        within = λ h s m k. go h s k (List·Memᴰ·append-cases (st .specs) m);
-        once = λ h. distinct-last rowClash (st .specs) (p .spec) (r .once (omega arith)) (none-any (λ a. rowClash a (p .spec)) (st .specs) (λ a m. rw f (and-false (fromRows a))));
-      }
-    where
-      go : first + now ≤ lastRun → (s : Spec) → fromRows s ≡ true → List·Memᴰ s (st .specs) ⊎ List·Memᴰ s (p .spec ∷ []) → (first ≤ s .destination) × (s .destination < first + now)
-      go h s k (inl m) =
-          let same = no-more (st .specs) (p .spec) f in
-          let old = r .within (omega arith) s m k in
-          (omega arith, omega arith)
-      go h s k (inr m) = absurd (true≢false (sym k ∙ ap fromRows (List·Memᴰ·eq-of-singleton m) ∙ f))
-
--- ---- as many specs of step 1 as trees, at most
+-- ---- there are at most as many specs of step 1 as trees
 
 total-le : (g h : Tree → ℕ) → ((t : Tree) → g t ≤ h t) → (ts : List Tree) → total (map g ts) ≤ total (map h ts)
 unfolding total
@@ -160,19 +86,6 @@ below-mem {first} b (List·Memᴰ·head e) = rw e (b .0)
 below-mem b (List·Memᴰ·tail m) = below-mem (b .1) m
 
 module _ (lim : ℕ → ℕ) (o : Options) (least : 1 ≤ o .min) (most : o .min ≤ o .max) (ts : List Tree) (js : List Job) where
-  pick-rises : (t : Tree) (p : Picked) (st : State) → pick lim o (st .used (t .prefix)) (st .fresh) t ≡ some p → Rising (firstFresh ts js) st → Rising (firstFresh ts js) (withPick (some p) st)
-  pick-rises t p st e r = go (pick-cases lim o (st .used (t .prefix)) (st .fresh) t p e)
-    where
-      go : Cases lim o (st .used (t .prefix)) (st .fresh) t p → Rising (firstFresh ts js) (withPick (some p) st)
-      go (takes-rows h q) =
-          rows-rise (firstFresh ts js) p st r
-          (rw q (rows-first (oldest o t) (a-row lim o least most t (enough-rows lim o least most t (st .used (t .prefix)) (st .fresh) h) .1)))
-          (ap (λ (x : Picked). x .spec .destination) q)
-          (ap (λ (x : Picked). x .fresh) q)
-      go (takes-runs i w k q) =
-          let same = Option·some-injective _ _ q in
-          runs-stay (firstFresh ts js) p st r (not-rows (p .spec) (lastOf (o .max) (i ∷ w)) (ap (λ (x : Picked). x .spec .sources) same)) (ap (λ (x : Picked). x .fresh) same)
-
   abbrev specs : List Spec
   specs = planned lim o ts js .specs
 
@@ -185,13 +98,9 @@ module _ (lim : ℕ → ℕ) (o : Options) (least : 1 ≤ o .min) (most : o .min
         total-ones (rowSpecsOf specs) ts (s .rowsOnce (once .prefixes)),
       )
 
-  start-rises : firstFresh ts js ≤ lastRun → Rising (firstFresh ts js) (start o ts js)
-  unfolding keep distinct
-  start-rises h = record { fresh = omega arith; within = λ k s m. absurd (List·Memᴰ·not-nil m); once = λ k. refl }
-
   risen-end : firstFresh ts js ≤ lastRun → (end : State) × Rising (firstFresh ts js) end × (specs ≡ end .specs)
   unfolding planned
-  risen-end h = call-keeps lim o (ordered ts) (Rising (firstFresh ts js)) (λ t p st m. pick-rises t p st) (freeSlots o js) 0 (start o ts js) (start-rises h)
+  risen-end h = call-keeps lim o (ordered ts) (Rising (firstFresh ts js)) (λ t p st m. pick-rises lim o least most ts js t p st) (freeSlots o js) 0 (start o ts js) (start-rises lim o least most ts js h)
 
   module _ (once : RowsOnce ts) (room : firstFresh ts js + length ts ≤ lastRun) where
     end : (end : State) × Rising (firstFresh ts js) end × (specs ≡ end .specs)

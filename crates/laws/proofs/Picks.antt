@@ -13,9 +13,9 @@ use Rattle.rules.specs.Lists.{all, total, lastOf}
 use Rattle.rules.specs.Tables.{SourceId, sortedRun, L0Row, Tree, among, viewId}
 use Rattle.rules.specs.Chain.{heldBack}
 use Rattle.rules.specs.Windows.{passes, last, window}
-use Rattle.rules.specs.Pick.{specUses, also, Picked, idsOf, sizesOf, l0SizesOf, oldest, takesRows, rowPick, runPick, pick}
+use Rattle.rules.specs.Pick.{Spec, specUses, also, Picked, idsOf, sizesOf, l0SizesOf, oldest, takesRows, rowPick, runPick, pick}
 use Rattle.rules.proofs.Lookups.{and-left, and-right}
-use Rattle.laws.specs.Demand3.{firstIsRow}
+use Rattle.laws.specs.Demand3.{firstIsRow, fromRows}
 use Rattle.laws.proofs.Used.{all-append, all-mem, mem-among, unused, free, free-lt}
 use Rattle.laws.proofs.Windows.{window-free}
 
@@ -88,6 +88,11 @@ module _ (lim : ℕ → ℕ) (o : Options) (u : SourceId → Bool) (f : ℕ) (t 
 -- where step 1 has a source, its spec shows it
 pub rows-first : {x : SourceId} (vs : List L0Row) → List·Memᴰ x (map viewId vs) → firstIsRow (map viewId vs) ≡ true
 rows-first (v ∷ vs) m = refl
+
+-- a spec with runs for sources has no rows
+pub not-rows : (s : Spec) (ids : List ℕ) → s .sources ≡ map sortedRun ids → fromRows s ≡ false
+not-rows s [] e = rw e
+not-rows s (i ∷ ids) e = rw e
 
 dropped-in : (j : ℕ) (l : List L0Row) → j < length l → (x : SourceId) × List·Memᴰ x (map viewId (drop j l)) × List·Memᴰ x (map viewId l)
 dropped-in j [] h = absurd (omega arith)

@@ -2,7 +2,7 @@
 use Prim.Native.Nat.{ℕ, zero, suc, _-_, _≤_, _<_}
 use mathlib.Core.Path.{_≡_, refl, sym, ap, ap₂, _∙_, subst}
 use mathlib.Core.Logic.{_⊎_, inl, inr}
-use mathlib.Core.List.{List, [], _∷_, _++_, map, append-assoc, List·Memᴰ, List·Memᴰ·head, List·Memᴰ·tail, List·Memᴰ·append-cases, List·Memᴰ·eq-of-singleton, List·Memᴰ·not-nil, Memᴰ·append-left}
+use mathlib.Core.List.{List, [], _∷_, _++_, append-assoc, List·Memᴰ, List·Memᴰ·head, List·Memᴰ·tail, List·Memᴰ·append-cases, List·Memᴰ·eq-of-singleton, List·Memᴰ·not-nil, Memᴰ·append-left}
 use mathlib.Core.Bool.{Bool, true, false, cond, _&&_, not, true≢false}
 use mathlib.Core.Option.{Option, some, none, Option·some-injective}
 use native.Mathlib.Omega.{arith}
@@ -21,9 +21,9 @@ use Rattle.laws.specs.Disjoint.{sharing}
 use Rattle.laws.specs.Shapes.{OfRows, OfRuns, Made, Shapes}
 use Rattle.laws.proofs.Used.{any-mem, mem-among}
 use Rattle.laws.proofs.Deal.{of}
-use Rattle.laws.proofs.Picks.{Cases, takes-rows, takes-runs, pick-cases, pick-prefix, a-row, enough-rows}
+use Rattle.laws.proofs.Picks.{Cases, takes-rows, takes-runs, pick-cases, pick-prefix, not-rows, a-row, enough-rows}
 use Rattle.laws.proofs.Order.{Apart, distinct-apart, apart-same, ordered-only}
-use Rattle.laws.proofs.Kept.{call-keeps}
+use Rattle.laws.proofs.Passes.{call-keeps}
 use Rattle.laws.proofs.Disjoint.{disjoint}
 
 -- ---- runs one after another
@@ -60,11 +60,6 @@ drop-last zero w h = refl
 drop-last (suc k) [] h = absurd (omega arith)
 drop-last (suc k) (i ∷ []) h = absurd (omega arith)
 drop-last (suc k) (i ∷ (j ∷ w)) h = drop-last k (j ∷ w) (omega arith)
-
--- a spec with runs for sources has no rows
-pub not-rows : (s : Spec) (ids : List ℕ) → s .sources ≡ map sortedRun ids → fromRows s ≡ false
-not-rows s [] e = rw e
-not-rows s (i ∷ ids) e = rw e
 
 -- ---- specs of tree k from L0 rows that have an id in common
 module _ (k : ℕ) (x : SourceId) where

@@ -9,7 +9,7 @@ use lib.Ieee.{binary32, ofBits}
 use lib.ListN.{length}
 use Rattle.rules.specs.declared.Options.{Options}
 use Rattle.rules.specs.Lists.{any, all, keep, concatMap, total, oneAbove, distinct}
-use Rattle.rules.specs.Tables.{Ulid, L0Row, Run, Tree, Source, Job}
+use Rattle.rules.specs.Tables.{Ulid, L0Row, Run, Tree, Job}
 use Rattle.rules.specs.Chain.{chain, joined, heldBack}
 use Rattle.rules.specs.Windows.{usedIds, passes, last, beginningPasses, upTo, lasting, eligible, greatest, window}
 use Rattle.rules.specs.Pick.{takesRows, pick, ownFirst, ownList}
