@@ -112,14 +112,14 @@ module _ {A : Type 0} (key : A → ℕ) where
   abbrev pub of : ℕ → List A → List A
   of k xs = keep (λ x. eqb (key x) k) xs
 
-  pub of-append : (k : ℕ) (xs ys : List A) → of k (xs ++ ys) ≡ of k xs ++ of k ys
+  of-append : (k : ℕ) (xs ys : List A) → of k (xs ++ ys) ≡ of k xs ++ of k ys
   of-append k xs ys = keep-append (λ x. eqb (key x) k) xs ys
 
-  pub of-other : (k : ℕ) (x : A) (xs : List A) → key x ≢ k → of k (x ∷ xs) ≡ of k xs
+  of-other : (k : ℕ) (x : A) (xs : List A) → key x ≢ k → of k (x ∷ xs) ≡ of k xs
   unfolding keep
   of-other k x xs h = rw (ne-eqb (key x) k h)
 
-  pub of-mine : (k : ℕ) (x : A) (xs : List A) → key x ≡ k → of k (x ∷ xs) ≡ x ∷ of k xs
+  of-mine : (k : ℕ) (x : A) (xs : List A) → key x ≡ k → of k (x ∷ xs) ≡ x ∷ of k xs
   unfolding keep
   of-mine k x xs e = rw (eq-eqb (key x) k e)
 

@@ -22,15 +22,15 @@ module _ {A : Type 0} (p : A → Bool) where
 
 module _ {A : Type 0} (same : A → A → Bool) where
   -- the first is none of the others, and these are distinct
-  pub first-apart : (x : A) (xs : List A) → distinct same (x ∷ xs) ≡ true → any (same x) xs ≡ false
+  first-apart : (x : A) (xs : List A) → distinct same (x ∷ xs) ≡ true → any (same x) xs ≡ false
   unfolding distinct
   first-apart x xs h = not-true _ (and-left (not (any (same x) xs)) (distinct same xs) h)
 
-  pub rest-distinct : (x : A) (xs : List A) → distinct same (x ∷ xs) ≡ true → distinct same xs ≡ true
+  rest-distinct : (x : A) (xs : List A) → distinct same (x ∷ xs) ≡ true → distinct same xs ≡ true
   unfolding distinct
   rest-distinct x xs h = and-right (not (any (same x) xs)) (distinct same xs) h
 
-  pub distinct-cons : (x : A) (xs : List A) → any (same x) xs ≡ false → distinct same xs ≡ true → distinct same (x ∷ xs) ≡ true
+  distinct-cons : (x : A) (xs : List A) → any (same x) xs ≡ false → distinct same xs ≡ true → distinct same (x ∷ xs) ≡ true
   unfolding distinct
   distinct-cons x xs h k = rw (h, k)
 
@@ -47,11 +47,11 @@ module _ {A : Type 0} (same : A → A → Bool) where
   right-distinct [] ys h = h
   right-distinct (x ∷ xs) ys h = right-distinct xs ys (rest-distinct x (xs ++ ys) h)
 
-  pub parts-apart : {x y : A} {xs ys : List A} → distinct same (xs ++ ys) ≡ true → List·Memᴰ x xs → List·Memᴰ y ys → same x y ≡ false
+  parts-apart : {x y : A} {xs ys : List A} → distinct same (xs ++ ys) ≡ true → List·Memᴰ x xs → List·Memᴰ y ys → same x y ≡ false
   parts-apart {x} {y} {ys = ys} h (List·Memᴰ·head {x = z} {xs} e) n = rw e (any-none (same z) (first-apart z (xs ++ ys) h) (Memᴰ·append-right xs n))
   parts-apart {ys = ys} h (List·Memᴰ·tail {x = z} {xs} m) n = parts-apart (rest-distinct z (xs ++ ys) h) m n
 
-  pub distinct-append : (xs ys : List A) → distinct same xs ≡ true → distinct same ys ≡ true → ((x y : A) → List·Memᴰ x xs → List·Memᴰ y ys → same x y ≡ false)
+  distinct-append : (xs ys : List A) → distinct same xs ≡ true → distinct same ys ≡ true → ((x y : A) → List·Memᴰ x xs → List·Memᴰ y ys → same x y ≡ false)
       → distinct same (xs ++ ys) ≡ true
   distinct-append [] ys h k a = k
   distinct-append (x ∷ xs) ys h k a =
@@ -98,7 +98,7 @@ module _ {A B : Type 0} (f : A → B) (same : B → B → Bool) (same′ : A →
 
 module _ {A B : Type 0} (f : A → List B) where
   -- an entry of the whole is one of a part
-  pub mem-concat : {b : B} (xs : List A) → List·Memᴰ b (concatMap f xs) → (x : A) × List·Memᴰ x xs × List·Memᴰ b (f x)
+  mem-concat : {b : B} (xs : List A) → List·Memᴰ b (concatMap f xs) → (x : A) × List·Memᴰ x xs × List·Memᴰ b (f x)
   unfolding concatMap
   mem-concat [] m = absurd (List·Memᴰ·not-nil m)
   mem-concat {b} (x ∷ xs) m = go (List·Memᴰ·append-cases (f x) m) (mem-concat xs)
@@ -107,7 +107,7 @@ module _ {A B : Type 0} (f : A → List B) where
       go (inl n) ih = (x, List·Memᴰ·head refl, n)
       go (inr n) ih = let r = ih n in (r .0, List·Memᴰ·tail (r .1), r .2)
 
-  pub concat-mem : {b : B} {x : A} {xs : List A} → List·Memᴰ x xs → List·Memᴰ b (f x) → List·Memᴰ b (concatMap f xs)
+  concat-mem : {b : B} {x : A} {xs : List A} → List·Memᴰ x xs → List·Memᴰ b (f x) → List·Memᴰ b (concatMap f xs)
   unfolding concatMap
   concat-mem {b} (List·Memᴰ·head {x = y} {xs} e) n = Memᴰ·append-left (concatMap f xs) (subst (λ (z : A). List·Memᴰ b (f z)) e n)
   concat-mem (List·Memᴰ·tail {x = y} m) n = Memᴰ·append-right (f y) (concat-mem m n)

@@ -40,8 +40,8 @@ aside-rows : (o : Options) (t : Tree) → firstIsRow (oldestIds o t) ≡ true �
 aside-rows o t h f g = rw h
 
 -- ---- so long as a tree's oldest rows are free, it uses no fresh number
-pub record Unmet (first : ℕ) (o : Options) (t : Tree) (u : SourceId → Bool) : Type 0 where
-  pub at : (f : ℕ) → first ≤ f → unused u (oldestIds o t) ≡ true → u (sortedRun f) ≡ false
+record Unmet (first : ℕ) (o : Options) (t : Tree) (u : SourceId → Bool) : Type 0 where
+  at : (f : ℕ) → first ≤ f → unused u (oldestIds o t) ≡ true → u (sortedRun f) ≡ false
 
 -- two picks that differ in the fresh number alone
 record Alike (first : ℕ) (o : Options) (t : Tree) (u v : SourceId → Bool) (p q : Picked) : Type 0 where

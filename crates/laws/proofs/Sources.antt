@@ -25,7 +25,7 @@ use Rattle.laws.proofs.Distinct.{any-none, left-distinct, right-distinc
 use Rattle.laws.proofs.Disjoint.{disjoint}
 use Rattle.laws.proofs.Shapes.{shapes}
 
-pub same-id : (x y : SourceId) → sameId x y ≡ true → x ≡ y
+same-id : (x y : SourceId) → sameId x y ≡ true → x ≡ y
 same-id (sortedRun a) (sortedRun b) h = ap sortedRun (eqb-true a b h)
 same-id (sortedRun a) (sstView v) h = absurd (false≢true h)
 same-id (sstView u) (sortedRun b) h = absurd (false≢true h)
@@ -33,12 +33,12 @@ same-id (sstView u) (sstView v) h = ap sstView (same-ulid u v h)
 
 -- ---- the rows of one tree, as ids
 
-pub views-distinct : (vs : List L0Row) → distinct sameUlid (map (λ v. v .view) vs) ≡ true → distinct sameId (map viewId vs) ≡ true
+views-distinct : (vs : List L0Row) → distinct sameUlid (map (λ v. v .view) vs) ≡ true → distinct sameId (map viewId vs) ≡ true
 views-distinct vs h =
     let same : L0Row → L0Row → Bool = λ a b. sameUlid (a .view) (b .view) in
     distinct-map viewId sameId same (λ a b. refl) vs ∙ sym (distinct-map (λ v. v .view) sameUlid same (λ a b. refl) vs) ∙ h
 
-pub ids-distinct : (ids : List ℕ) → distinct eqb ids ≡ true → distinct sameId (map sortedRun ids) ≡ true
+ids-distinct : (ids : List ℕ) → distinct eqb ids ≡ true → distinct sameId (map sortedRun ids) ≡ true
 ids-distinct ids h = distinct-map sortedRun sameId eqb (λ a b. refl) ids ∙ h
 
 module _ {o : Options} {t : Tree} {s : Spec} where

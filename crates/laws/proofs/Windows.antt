@@ -50,7 +50,7 @@ abbrev pub windowUses : List ℕ → List SourceId
 windowUses w = map sortedRun w ++ (sortedRun (last w) ∷ [])
 
 -- the greatest k with p has p
-pub greatest-has : (p : ℕ → Bool) (n k : ℕ) → greatest p n ≡ suc k → p (suc k) ≡ true
+greatest-has : (p : ℕ → Bool) (n k : ℕ) → greatest p n ≡ suc k → p (suc k) ≡ true
 unfolding greatest
 greatest-has p zero k e = absurd (let z : _≡_ {A = ℕ} 0 1 = cc in omega arith)
 greatest-has p (suc n) k e = go (p (suc n)) refl e (greatest-has p n k)
