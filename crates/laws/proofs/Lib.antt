@@ -16,3 +16,4 @@ pub mod Shapes
 pub mod Sources
 pub mod NamesOnce
 pub mod PlanCall
+pub mod Laws

@@ -12,7 +12,6 @@ use borrow.Author.Tests.{ne-eqb, eq-eqb, le-leb}
 use Rattle.rules.specs.declared.Options.{Options}
 use Rattle.rules.specs.Lists.{keep, distinct, total}
 use Rattle.rules.specs.Tables.{sortedRun, Tree, Job}
-use Rattle.rules.specs.Windows.{last}
 use Rattle.rules.specs.Pick.{Spec, lastRun, oldest, idsOf}
 use Rattle.rules.specs.Plan.{State, firstFresh, freeSlots, ordered, start, planned}
 use Rattle.rules.proofs.Lookups.{or-left, or-right}
@@ -21,7 +20,7 @@ use Rattle.laws.specs.Disjoint.{sharing}
 use Rattle.laws.specs.Shapes.{OfRows, OfRuns}
 use Rattle.laws.specs.NamesOnce.{RowsOnce, NamesOnce}
 use Rattle.laws.proofs.Deal.{of}
-use Rattle.laws.proofs.Windows.{Below}
+use Rattle.laws.proofs.Windows.{Below, last-mem}
 use Rattle.laws.proofs.Picks.{a-row, rows-first}
 use Rattle.laws.proofs.Fresh.{committed-below, rowSpecs, rowClash, Rising, pick-rises, start-rises}
 use Rattle.laws.proofs.Passes.{call-keeps}
@@ -73,13 +72,6 @@ rows-by-tree ts (s ∷ ss) h = go (fromRows s) refl (rows-by-tree ts ss (λ r m.
         omega (arith, total-lt (rowSpecsOf ss) (rowSpecsOf (s ∷ ss)) (rows-grow s ss) (x .1) mine)
 
 -- ---- all together
-
--- the last id is one of them
-last-mem : (ids : List ℕ) → 1 ≤ length ids → List·Memᴰ (last ids) ids
-unfolding last
-last-mem [] h = absurd (omega arith)
-last-mem (i ∷ []) h = List·Memᴰ·head refl
-last-mem (i ∷ (j ∷ ids)) h = List·Memᴰ·tail (last-mem (j ∷ ids) (omega arith))
 
 below-mem : {first i : ℕ} {ids : List ℕ} → Below first ids → List·Memᴰ i ids → i < first
 below-mem {first} b (List·Memᴰ·head e) = rw e (b .0)

@@ -1,11 +1,11 @@
 -- Windows: they go by old ids alone, and all that a window takes is free.
-use Prim.Native.Nat.{ℕ, zero, suc, _<_}
+use Prim.Native.Nat.{ℕ, zero, suc, _≤_, _<_}
 use mathlib.Core.Path.{_≡_, refl, ap, ap₂, fun-ext, subst}
-use mathlib.Core.List.{List, [], _∷_, _++_, map, nil≢cons, List·Memᴰ, List·Memᴰ·head, List·Memᴰ·tail}
+use mathlib.Core.List.{List, [], _∷_, _++_, map, nil≢cons, List·Memᴰ, List·Memᴰ·head, List·Memᴰ·tail, Memᴰ·append-left, Memᴰ·map}
 use mathlib.Core.Bool.{Bool, true, false, cond, _&&_, not}
 use native.Mathlib.Omega.{arith}
 use lib.Dec.{leb}
-use lib.ListN.{length, take, drop}
+use lib.ListN.{length, take, drop, take-append-drop}
 use Rattle.rules.specs.Lists.{total}
 use Rattle.rules.specs.Tables.{SourceId, sortedRun}
 use Rattle.rules.specs.Chain.{chain, heldBack}
@@ -38,12 +38,18 @@ unfolding last
 below-last first i [] b = b .0
 below-last first i (j ∷ ids) b = below-last first j ids (b .1)
 
--- the last of the first ids is one of them
-last-in : (k i : ℕ) (ids : List ℕ) → List·Memᴰ (sortedRun (last (take (suc k) (i ∷ ids)))) (map sortedRun (i ∷ ids))
+-- the last id is one of them
+pub last-mem : (ids : List ℕ) → 1 ≤ length ids → List·Memᴰ (last ids) ids
 unfolding last
-last-in zero i ids = List·Memᴰ·head refl
-last-in (suc k) i [] = List·Memᴰ·head refl
-last-in (suc k) i (j ∷ ids) = List·Memᴰ·tail (last-in k j ids)
+last-mem [] h = absurd (omega arith)
+last-mem (i ∷ []) h = List·Memᴰ·head refl
+last-mem (i ∷ (j ∷ ids)) h = List·Memᴰ·tail (last-mem (j ∷ ids) (omega arith))
+
+-- the last of the first ids is one of all
+last-in : (k i : ℕ) (ids : List ℕ) → List·Memᴰ (sortedRun (last (take (suc k) (i ∷ ids)))) (map sortedRun (i ∷ ids))
+last-in k i ids =
+    let front = take (suc k) (i ∷ ids) in
+    Memᴰ·map sortedRun (subst (List·Memᴰ (last front)) (take-append-drop (suc k) (i ∷ ids)) (Memᴰ·append-left (drop (suc k) (i ∷ ids)) (last-mem front (omega arith))))
 
 -- a run window, with its destination
 abbrev pub windowUses : List ℕ → List SourceId

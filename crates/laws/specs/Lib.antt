@@ -7,3 +7,4 @@ pub mod Disjoint
 pub mod Shapes
 pub mod NamesOnce
 pub mod PlanCall
+pub mod Laws
