@@ -112,17 +112,21 @@ module _ {A : Type 0} (key : A → ℕ) where
   abbrev pub of : ℕ → List A → List A
   of k xs = keep (λ x. eqb (key x) k) xs
 
+  -- of two lists
   of-append : (k : ℕ) (xs ys : List A) → of k (xs ++ ys) ≡ of k xs ++ of k ys
   of-append k xs ys = keep-append (λ x. eqb (key x) k) xs ys
 
+  -- an entry of another key is left out
   of-other : (k : ℕ) (x : A) (xs : List A) → key x ≢ k → of k (x ∷ xs) ≡ of k xs
   unfolding keep
   of-other k x xs h = rw (ne-eqb (key x) k h)
 
+  -- one of this key is not
   of-mine : (k : ℕ) (x : A) (xs : List A) → key x ≡ k → of k (x ∷ xs) ≡ x ∷ of k xs
   unfolding keep
   of-mine k x xs e = rw (eq-eqb (key x) k e)
 
+  -- these are no more than all
   length-of : (k : ℕ) (xs : List A) → length (of k xs) ≤ length xs
   unfolding keep
   length-of k [] = omega arith
@@ -144,6 +148,7 @@ module _ {A : Type 0} (key : A → ℕ) where
   Keyed [] = Unit {0}
   Keyed (queue k l ∷ qs) = AllOf k l × Apart k qs × Keyed qs
 
+  -- a pass leaves the keys as they are
   apart-rests : (k : ℕ) (qs : List (Queue A)) (s : ℕ) → Apart k qs → Apart k (rests qs s)
   apart-rests k [] s h = tt
   apart-rests k (queue j [] ∷ qs) s h = (h .0, apart-rests k qs s (h .1))
@@ -160,6 +165,7 @@ module _ {A : Type 0} (key : A → ℕ) where
   not-mine : (k j : ℕ) (x : A) → key x ≡ j → j ≢ k → key x ≢ k
   not-mine k j x e h q = h (sym e ∙ q)
 
+  -- where no queue is that of k, a pass hands out nothing of k
   apart-none : (k : ℕ) (qs : List (Queue A)) (s : ℕ) → Keyed qs → Apart k qs → of k (heads qs s) ≡ []
   unfolding keep
   apart-none k [] s g h = refl
@@ -173,20 +179,24 @@ module _ {A : Type 0} (key : A → ℕ) where
     empty : l ≡ [] → of k (heads qs s) ≡ [] → In k l (rests qs s) → Turn k l qs s
     spent : s ≤ length (heads qs s) → s < length qs → of k (heads qs s) ≡ [] → In k l (rests qs s) → Turn k l qs s
 
+  -- a turn behind an empty queue
   turn-past : {k : ℕ} {l : List A} {j : ℕ} {qs : List (Queue A)} {s : ℕ} → Turn k l qs s → Turn k l (queue j [] ∷ qs) s
   turn-past (got x l′ e o i) = got x l′ e o (there i)
   turn-past (empty e o i) = empty e o (there i)
   turn-past (spent a b o i) = spent a (omega arith) o (there i)
 
+  -- a turn behind a queue that gives its head
   turn-next : {k : ℕ} {l : List A} {j : ℕ} (x : A) (m : List A) {qs : List (Queue A)} {s : ℕ} → key x ≢ k → Turn k l qs s → Turn k l (queue j (x ∷ m) ∷ qs) (suc s)
   turn-next {k} x m {qs} {s} h (got y l′ e o i) = got y l′ e (of-other k x (heads qs s) h ∙ o) (there i)
   turn-next {k} x m {qs} {s} h (empty e o i) = empty e (of-other k x (heads qs s) h ∙ o) (there i)
   turn-next {k} x m {qs} {s} h (spent a b o i) = spent (omega arith) (omega arith) (of-other k x (heads qs s) h ∙ o) (there i)
 
+  -- two queues have two keys
   apart-in : {k j : ℕ} {l : List A} {qs : List (Queue A)} → Apart j qs → In k l qs → j ≢ k
   apart-in h here = λ e. h .0 (sym e)
   apart-in {qs = queue i m ∷ qs} h (there p) = apart-in (h .1) p
 
+  -- one pass, for any queue
   turn : {k : ℕ} {l : List A} (qs : List (Queue A)) (s : ℕ) → Keyed qs → In k l qs → Turn k l qs s
   unfolding keep
   turn (queue k [] ∷ qs) s g here = empty refl (apart-none k qs s (g .2) (g .1)) here
@@ -252,6 +262,7 @@ module _ {A : Type 0} (key : A → ℕ) where
   abbrev pub Most : List (Queue A) → List A → ℕ → Type 0
   Most qs xs n = (k : ℕ) × (l : List A) × In k l qs × (n ≤ length (of k xs))
 
+  -- a queue that is left stood there before
   in-back : {k : ℕ} {l : List A} (qs : List (Queue A)) (s : ℕ) → In k l (rests qs s) → (m : List A) × In k m qs
   in-back (queue j [] ∷ qs) s here = ([], here)
   in-back (queue j [] ∷ qs) s (there i) = let r = in-back qs s i in (r .0, there (r .1))
@@ -259,6 +270,7 @@ module _ {A : Type 0} (key : A → ℕ) where
   in-back (queue j (x ∷ l) ∷ qs) (suc s) here = (x ∷ l, here)
   in-back (queue j (x ∷ l) ∷ qs) (suc s) (there i) = let r = in-back qs s i in (r .0, there (r .1))
 
+  -- a pass that hands out something gives to some queue
   first : (qs : List (Queue A)) (s : ℕ) → Keyed qs → {x : A} {xs : List A} → heads qs s ≡ x ∷ xs → Most qs (heads qs s) 1
   first [] s g e = absurd (nil≢cons e)
   first (queue k [] ∷ qs) s g e = let r = first qs s (g .2) e in (r .0, r .1, there (r .2), r .3)

@@ -22,11 +22,13 @@ use Rattle.laws.proofs.Distinct.{distinct-last}
 use Rattle.laws.proofs.Passes.{call-keeps}
 
 module _ {A : Type 0} (p q : A → Bool) where
+  -- what follows from a test holds wherever it does
   all-weaker : ((x : A) → p x ≡ true → q x ≡ true) → (xs : List A) → all p xs ≡ true → all q xs ≡ true
   unfolding all
   all-weaker w [] h = refl
   all-weaker w (x ∷ xs) h = ap₂ _&&_ (w x (and-left (p x) (all p xs) h)) (all-weaker w xs (and-right (p x) (all p xs) h))
 
+  -- what a test rules out holds of none
   all-none : ((x : A) → p x ≡ true → q x ≡ false) → (xs : List A) → all p xs ≡ true → any q xs ≡ false
   unfolding all any
   all-none w [] h = refl
@@ -58,11 +60,13 @@ record Apart (js : List Job) (st : State) : Type 0 where
   free : all (isFree js) (st .specs) ≡ true
   once : distinct sharing (st .specs) ≡ true
 
+-- so it is at the start
 start-apart : (o : Options) (ts : List Tree) (js : List Job) → Apart js (start o ts js)
 unfolding any all distinct
 start-apart o ts js = record { used = λ k. fun-ext (λ x. sym (or-false (among x (usedIds js k)))); free = refl; once = refl }
 
 module _ (lim : ℕ → ℕ) (o : Options) (js : List Job) where
+  -- and after every pick
   pick-apart : (t : Tree) (p : Picked) (st : State) → pick lim o (st .used (t .prefix)) (st .fresh) t ≡ some p → Apart js st → Apart js (withPick (some p) st)
   unfolding any all
   pick-apart t p st e a = record {
@@ -91,21 +95,26 @@ module _ (lim : ℕ → ℕ) (o : Options) (js : List Job) where
     abbrev goodFor : (SourceId → Bool) → Spec → Bool
     goodFor u s = eqb (s .prefix) (t .prefix) && unused u (specUses s)
 
+    -- a pick is good at what was used before it
     pick-good : (u : SourceId → Bool) (f : ℕ) (p : Picked) → pick lim o u f t ≡ some p → goodFor u (p .spec) ≡ true
     pick-good u f p e = ap₂ _&&_ (eq-eqb (p .spec .prefix) (t .prefix) (pick-prefix lim o u f t p e)) (pick-free lim o u f t p e)
 
     -- what is free after a pick was free before it, and shares nothing with it
     module _ (u : SourceId → Bool) (s r : Spec) (h : goodFor (also u s) r ≡ true) where
+      -- r is free of what was used, and of s
       parts : (unused u (specUses r) && unused (λ x. among x (specUses s)) (specUses r)) ≡ true
       parts = sym (unused-plus u (λ x. among x (specUses s)) (specUses r)) ∙ and-right (eqb (r .prefix) (t .prefix)) _ h
 
+      -- so it was good before
       good-before : goodFor u r ≡ true
       good-before = ap₂ _&&_ (and-left (eqb (r .prefix) (t .prefix)) (unused (also u s) (specUses r)) h) (and-left (unused u (specUses r)) _ parts)
 
+      -- and shares nothing with s
       not-sharing : sharing s r ≡ false
       not-sharing =
           rw (unused-any (λ x. among x (specUses s)) (specUses r) (and-right (unused u (specUses r)) _ parts)) (and-false (eqb (s .prefix) (r .prefix)))
 
+    -- every entry of an own list is good at what is used at the start
     own-good : (n : ℕ) (u : SourceId → Bool) (f : ℕ) → all (goodFor u) (ownFirst lim o n u f t) ≡ true
     unfolding ownFirst all
     own-good zero u f = refl
@@ -118,6 +127,7 @@ module _ (lim : ℕ → ℕ) (o : Options) (js : List Job) where
         go none e ih = refl
         go (some p) e ih = ap₂ _&&_ (pick-good u f p e) (all-weaker (goodFor (also u (p .spec))) (goodFor u) (good-before u (p .spec)) (next p) (ih p))
 
+    -- no two of them share anything
     own-once : (n : ℕ) (u : SourceId → Bool) (f : ℕ) → distinct sharing (ownFirst lim o n u f t) ≡ true
     unfolding ownFirst distinct
     own-once zero u f = refl
@@ -133,6 +143,7 @@ module _ (lim : ℕ → ℕ) (o : Options) (js : List Job) where
             (ap not (all-none (goodFor (also u (p .spec))) (sharing (p .spec)) (not-sharing u (p .spec)) (next p) (own-good n (also u (p .spec)) (p .fresh))))
             (ih p)
 
+    -- good at what active jobs use is free of it
     good-free : (s : Spec) → goodFor (λ x. among x (usedIds js (t .prefix))) s ≡ true → isFree js s ≡ true
     good-free s h =
         rw (eqb-true (s .prefix) (t .prefix) (and-left _ (unused (λ x. among x (usedIds js (t .prefix))) (specUses s)) h))

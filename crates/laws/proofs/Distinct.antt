@@ -26,10 +26,12 @@ module _ {A : Type 0} (same : A → A → Bool) where
   unfolding distinct
   first-apart x xs h = not-true _ (and-left (not (any (same x) xs)) (distinct same xs) h)
 
+  -- the others are distinct
   rest-distinct : (x : A) (xs : List A) → distinct same (x ∷ xs) ≡ true → distinct same xs ≡ true
   unfolding distinct
   rest-distinct x xs h = and-right (not (any (same x) xs)) (distinct same xs) h
 
+  -- and back
   distinct-cons : (x : A) (xs : List A) → any (same x) xs ≡ false → distinct same xs ≡ true → distinct same (x ∷ xs) ≡ true
   unfolding distinct
   distinct-cons x xs h k = rw (h, k)
@@ -47,10 +49,12 @@ module _ {A : Type 0} (same : A → A → Bool) where
   right-distinct [] ys h = h
   right-distinct (x ∷ xs) ys h = right-distinct xs ys (rest-distinct x (xs ++ ys) h)
 
+  -- an entry of the one is none of the other
   parts-apart : {x y : A} {xs ys : List A} → distinct same (xs ++ ys) ≡ true → List·Memᴰ x xs → List·Memᴰ y ys → same x y ≡ false
   parts-apart {x} {y} {ys = ys} h (List·Memᴰ·head {x = z} {xs} e) n = rw e (any-none (same z) (first-apart z (xs ++ ys) h) (Memᴰ·append-right xs n))
   parts-apart {ys = ys} h (List·Memᴰ·tail {x = z} {xs} m) n = parts-apart (rest-distinct z (xs ++ ys) h) m n
 
+  -- two lists that have no entry in common
   distinct-append : (xs ys : List A) → distinct same xs ≡ true → distinct same ys ≡ true → ((x y : A) → List·Memᴰ x xs → List·Memᴰ y ys → same x y ≡ false)
       → distinct same (xs ++ ys) ≡ true
   distinct-append [] ys h k a = k
@@ -85,6 +89,7 @@ module _ {A : Type 0} (clash : A → A → Bool) where
       (distinct-either clash′ xs (rest-distinct clash x xs h) (rest-distinct clash′ x xs k))
 
 module _ {A B : Type 0} (f : A → B) (same : B → B → Bool) (same′ : A → A → Bool) (is : (a b : A) → same (f a) (f b) ≡ same′ a b) where
+  -- a test by another name
   any-map : (x : A) (xs : List A) → any (same (f x)) (map f xs) ≡ any (same′ x) xs
   unfolding any
   any-map x [] = refl
@@ -107,6 +112,7 @@ module _ {A B : Type 0} (f : A → List B) where
       go (inl n) ih = (x, List·Memᴰ·head refl, n)
       go (inr n) ih = let r = ih n in (r .0, List·Memᴰ·tail (r .1), r .2)
 
+  -- an entry of a part is one of the whole
   concat-mem : {b : B} {x : A} {xs : List A} → List·Memᴰ x xs → List·Memᴰ b (f x) → List·Memᴰ b (concatMap f xs)
   unfolding concatMap
   concat-mem {b} (List·Memᴰ·head {x = y} {xs} e) n = Memᴰ·append-left (concatMap f xs) (subst (λ (z : A). List·Memᴰ b (f z)) e n)

@@ -24,28 +24,34 @@ use Rattle.laws.proofs.Distinct.{none-any, distinct-last}
 
 -- ---- the first
 
+-- of two lists
 above-append : (xs ys : List ℕ) → oneAbove (xs ++ ys) ≡ max (oneAbove xs) (oneAbove ys)
 unfolding oneAbove
 above-append [] ys = omega arith
 above-append (x ∷ xs) ys = omega (arith, above-append xs ys)
 
+-- all ids are below what is one above them
 above-below : (first : ℕ) (ids : List ℕ) → oneAbove ids ≤ first → Below first ids
 unfolding oneAbove
 above-below first [] h = tt
 above-below first (i ∷ ids) h = (omega arith, above-below first ids (omega arith))
 
+-- of the first tree and the others
 runs-above : (s : Tree) (ts : List Tree) → oneAbove (idsOf (runsOf (s ∷ ts))) ≡ max (oneAbove (idsOf (s .runs))) (oneAbove (idsOf (runsOf ts)))
 unfolding concatMap
 runs-above s ts = ap oneAbove (map-append (λ (r : Run). r .id) (s .runs) (runsOf ts)) ∙ above-append (idsOf (s .runs)) (idsOf (runsOf ts))
 
+-- of one of the trees
 one-of : {t : Tree} {ts : List Tree} → List·Memᴰ t ts → oneAbove (idsOf (t .runs)) ≤ oneAbove (idsOf (runsOf ts))
 one-of {t} (List·Memᴰ·head {x = s} {xs = ts} e) = rw e (omega (arith, runs-above s ts))
 one-of (List·Memᴰ·tail {x = s} {xs = ts} m) = omega (arith, runs-above s ts, one-of m)
 
+-- so there is a tree
 some-tree : {t : Tree} {ts : List Tree} → List·Memᴰ t ts → 1 ≤ length ts
 some-tree (List·Memᴰ·head e) = omega arith
 some-tree (List·Memᴰ·tail m) = omega arith
 
+-- every run of a tree is below it
 pub committed-below : (ts : List Tree) (js : List Job) → firstFresh ts js + length ts ≤ lastRun → (t : Tree) → List·Memᴰ t ts → Below (firstFresh ts js) (idsOf (t .runs))
 unfolding firstFresh
 committed-below ts js h t m =
@@ -62,20 +68,24 @@ rowClash a b = fromRows a && (fromRows b && eqb (a .destination) (b .destination
 
 -- ---- fresh numbers rise
 
+-- after n specs of step 1 the fresh number is n above the first, and their destinations are the numbers between, each once
 pub record Rising (first : ℕ) (st : State) : Type 0 where
   pub fresh : st .fresh ≡ min (first + rowSpecs (st .specs)) lastRun
   pub within : first + rowSpecs (st .specs) ≤ lastRun → (s : Spec) → List·Memᴰ s (st .specs) → fromRows s ≡ true → (first ≤ s .destination) × (s .destination < first + rowSpecs (st .specs))
   pub once : first + rowSpecs (st .specs) ≤ lastRun → distinct rowClash (st .specs) ≡ true
 
+-- a spec of step 1 counts
 one-more : (ss : List Spec) (s : Spec) → fromRows s ≡ true → rowSpecs (ss ++ (s ∷ [])) ≡ rowSpecs ss + 1
 unfolding keep
 one-more ss s h = ap length (keep-append fromRows ss (s ∷ [])) ∙ rw h (length-append (keep fromRows ss) (s ∷ []))
 
+-- one of step 2 does not
 no-more : (ss : List Spec) (s : Spec) → fromRows s ≡ false → rowSpecs (ss ++ (s ∷ [])) ≡ rowSpecs ss
 unfolding keep
 no-more ss s h = ap length (keep-append fromRows ss (s ∷ [])) ∙ rw h (length-append (keep fromRows ss) [] ∙ omega arith)
 
 module _ (first : ℕ) (p : Picked) (st : State) (r : Rising first st) where
+  -- how many there are after this pick
   abbrev now : ℕ
   now = rowSpecs (st .specs ++ (p .spec ∷ []))
 
@@ -140,6 +150,7 @@ module _ (lim : ℕ → ℕ) (o : Options) (least : 1 ≤ o .min) (most : o .min
           let same = Option·some-injective _ _ q in
           runs-stay (firstFresh ts js) p st r (not-rows (p .spec) (lastOf (o .max) (i ∷ w)) (ap (λ (x : Picked). x .spec .sources) same)) (ap (λ (x : Picked). x .fresh) same)
 
+  -- at the start there are none
   pub start-rises : firstFresh ts js ≤ lastRun → Rising (firstFresh ts js) (start o ts js)
   unfolding keep distinct
   start-rises h = record { fresh = omega arith; within = λ k s m. absurd (List·Memᴰ·not-nil m); once = λ k. refl }

@@ -58,11 +58,13 @@ module _ (lim : ℕ → ℕ) (o : Options) where
   abbrev Spends : State → State → Type 0
   Spends st next = (next .slots + length (next .specs) ≡ st .slots + length (st .specs)) × (length (st .specs) ≤ length (next .specs))
 
+  -- one tree asked
   asked-spends : (a : Option Picked) (st : State) → st .slots ≢ 0 → Spends st (withPick a st)
   asked-spends none st h = omega arith
   asked-spends (some p) st h =
       let l = length-append (st .specs) (p .spec ∷ []) in (omega arith, omega arith)
 
+  -- all trees asked
   pass-spends : (ts : List Tree) (st : State) → Spends st (pass lim o ts st)
   unfolding pass ask
   pass-spends [] st = omega arith
@@ -117,6 +119,7 @@ module _ (lim : ℕ → ℕ) (o : Options) where
   joined-le least (x ∷ xs) =
       elim (leb x (lim least)) as (λ c. cond c (suc (joined lim (min least x) xs)) 0 ≤ suc (length xs)) [ true ↦ omega (arith, joined-le (min least x) xs) | false ↦ omega arith ]
 
+  -- and so for the chain
   chain-le : (sizes : List ℕ) → chain lim sizes ≤ length sizes
   unfolding chain
   chain-le [] = omega arith

@@ -31,16 +31,19 @@ use Rattle.laws.proofs.Sources.{plan-apart, own-sources, plan-sources}
 
 -- ---- there are at most as many specs of step 1 as trees
 
+-- sums of larger numbers are larger
 total-le : (g h : Tree → ℕ) → ((t : Tree) → g t ≤ h t) → (ts : List Tree) → total (map g ts) ≤ total (map h ts)
 unfolding total
 total-le g h a [] = omega arith
 total-le g h a (t ∷ ts) = omega (arith, a t, total-le g h a ts)
 
+-- and truly so where one of them is
 total-lt : (g h : Tree → ℕ) → ((t : Tree) → g t ≤ h t) → {t : Tree} {ts : List Tree} → List·Memᴰ t ts → g t < h t → total (map g ts) < total (map h ts)
 unfolding total
 total-lt g h a {t} (List·Memᴰ·head {x = c} {xs} e) l = let k : g c < h c = rw (← e) l in omega (arith, total-le g h a xs)
 total-lt g h a (List·Memᴰ·tail {x = c} m) l = omega (arith, a c, total-lt g h a m l)
 
+-- of numbers up to 1 the sum is at most how many there are
 total-ones : (g : Tree → ℕ) (ts : List Tree) → ((t : Tree) → List·Memᴰ t ts → g t ≤ 1) → total (map g ts) ≤ length ts
 unfolding total
 total-ones g [] h = omega arith
@@ -50,6 +53,7 @@ total-ones g (t ∷ ts) h = omega (arith, h t (List·Memᴰ·head refl), total-o
 abbrev rowSpecsOf : List Spec → Tree → ℕ
 rowSpecsOf ss t = rowSpecs (of (λ s. s .prefix) (t .prefix) ss)
 
+-- one more spec is no fewer of step 1
 rows-grow : (s : Spec) (ss : List Spec) (t : Tree) → rowSpecsOf ss t ≤ rowSpecsOf (s ∷ ss) t
 unfolding keep
 rows-grow s ss t = go (eqb (s .prefix) (t .prefix)) (fromRows s) refl
@@ -59,6 +63,7 @@ rows-grow s ss t = go (eqb (s .prefix) (t .prefix)) (fromRows s) refl
     go true false e = rw e (omega arith)
     go true true e = rw e (omega arith)
 
+-- each spec of step 1 is counted with its tree
 rows-by-tree : (ts : List Tree) (ss : List Spec) → ((s : Spec) → List·Memᴰ s ss → (t : Tree) × List·Memᴰ t ts × (s .prefix ≡ t .prefix)) → rowSpecs ss ≤ total (map (rowSpecsOf ss) ts)
 unfolding keep
 rows-by-tree ts [] h = omega arith
@@ -73,6 +78,7 @@ rows-by-tree ts (s ∷ ss) h = go (fromRows s) refl (rows-by-tree ts ss (λ r m.
 
 -- ---- all together
 
+-- each of some ids below a number is below it
 below-mem : {first i : ℕ} {ids : List ℕ} → Below first ids → List·Memᴰ i ids → i < first
 below-mem {first} b (List·Memᴰ·head e) = rw e (b .0)
 below-mem b (List·Memᴰ·tail m) = below-mem (b .1) m
@@ -81,6 +87,7 @@ module _ (lim : ℕ → ℕ) (o : Options) (least : 1 ≤ o .min) (most : o .min
   abbrev specs : List Spec
   specs = planned lim o ts js .specs
 
+  -- at most as many specs of step 1 as trees
   few : RowsOnce ts → rowSpecs specs ≤ length ts
   few once =
       let s = shapes lim o least most ts js in
@@ -90,6 +97,7 @@ module _ (lim : ℕ → ℕ) (o : Options) (least : 1 ≤ o .min) (most : o .min
         total-ones (rowSpecsOf specs) ts (s .rowsOnce (once .prefixes)),
       )
 
+  -- fresh numbers have risen at the end of the call
   risen-end : firstFresh ts js ≤ lastRun → (end : State) × Rising (firstFresh ts js) end × (specs ≡ end .specs)
   unfolding planned
   risen-end h = call-keeps lim o (ordered ts) (Rising (firstFresh ts js)) (λ t p st m. pick-rises lim o least most ts js t p st) (freeSlots o js) 0 (start o ts js) (start-rises lim o least most ts js h)
@@ -98,6 +106,7 @@ module _ (lim : ℕ → ℕ) (o : Options) (least : 1 ≤ o .min) (most : o .min
     end : (end : State) × Rising (firstFresh ts js) end × (specs ≡ end .specs)
     end = risen-end (omega arith)
 
+    -- and have not stopped
     enough : firstFresh ts js + rowSpecs (end .0 .specs) ≤ lastRun
     enough = rw (← end .2) (omega (arith, few once))
 
@@ -116,6 +125,7 @@ module _ (lim : ℕ → ℕ) (o : Options) (least : 1 ≤ o .min) (most : o .min
                   (below-mem {ids = idsOf (t .runs)} (committed-below ts js room t k) (rw (r .place) (Memᴰ·append-right (r .before) (Memᴰ·append-left (r .after) in-ids)))),
             )
 
+    -- one of step 1 is not below it
     row-destination : (s : Spec) → List·Memᴰ s specs → fromRows s ≡ true → firstFresh ts js ≤ s .destination
     row-destination s m f = end .1 .within enough s (subst (List·Memᴰ s) (end .2) m) f .0
 
@@ -131,6 +141,7 @@ module _ (lim : ℕ → ℕ) (o : Options) (least : 1 ≤ o .min) (most : o .min
             plan-apart lim o least most ts js once s r m n (or-left (sharing s r) (rowClash s r) h) (sortedRun (s .destination)) (sortedRun (r .destination))
             (run-destination s m e .0) (run-destination r n f .0)
 
+    -- no destination twice
     destinations-once : distinct eqb (map (λ s. s .destination) specs) ≡ true
     destinations-once =
         let same : Spec → Spec → Bool = λ a b. eqb (a .destination) (b .destination) in

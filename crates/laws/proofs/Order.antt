@@ -18,12 +18,14 @@ abbrev pub Apart : List Tree → Type 0
 Apart [] = Unit {0}
 Apart (t ∷ ts) = ((c : Tree) → List·Memᴰ c ts → c .prefix ≢ t .prefix) × Apart ts
 
+-- a prefix that is none of these
 none-same : {c : Tree} (k : ℕ) (ts : List Tree) → any (eqb k) (map (λ t. t .prefix) ts) ≡ false → List·Memᴰ c ts → c .prefix ≢ k
 unfolding any
 none-same {c} k (t ∷ ts) h (List·Memᴰ·head e) q =
     eqb-false k (t .prefix) (or-left (eqb k (t .prefix)) (any (eqb k) (map (λ x. x .prefix) ts)) h) (sym q ∙ ap (λ (x : Tree). x .prefix) e)
 none-same k (t ∷ ts) h (List·Memᴰ·tail m) q = none-same k ts (or-right (eqb k (t .prefix)) (any (eqb k) (map (λ x. x .prefix) ts)) h) m q
 
+-- no prefix twice
 pub distinct-apart : (ts : List Tree) → distinct eqb (map (λ t. t .prefix) ts) ≡ true → Apart ts
 unfolding distinct
 distinct-apart [] h = tt
@@ -44,6 +46,7 @@ data Inserted (t : Tree) : List Tree → List Tree → Type 0 where
   at-front : {ts : List Tree} → Inserted t ts (t ∷ ts)
   after : {s : Tree} {ts us : List Tree} → Inserted t ts us → Inserted t (s ∷ ts) (s ∷ us)
 
+-- placing a tree puts it among the others
 placed-in : (t : Tree) (ts : List Tree) → Inserted t ts (placed t ts)
 unfolding placed
 placed-in t [] = at-front
@@ -53,21 +56,25 @@ placed-in t (s ∷ ts) = go (leb (length (s .l0)) (length (t .l0))) (placed-in t
     go true i = at-front
     go false i = after i
 
+-- sums
 total-in : (g : Tree → ℕ) {t : Tree} {ts us : List Tree} → Inserted t ts us → total (map g us) ≡ g t + total (map g ts)
 unfolding total
 total-in g at-front = refl
 total-in g (after i) = omega (arith, total-in g i)
 
+-- lengths
 length-in : {t : Tree} {ts us : List Tree} → Inserted t ts us → length us ≡ suc (length ts)
 length-in at-front = refl
 length-in (after i) = ap suc (length-in i)
 
+-- members, into the list
 mem-in : {c t : Tree} {ts us : List Tree} → Inserted t ts us → List·Memᴰ c (t ∷ ts) → List·Memᴰ c us
 mem-in at-front m = m
 mem-in (after i) (List·Memᴰ·head e) = List·Memᴰ·tail (mem-in i (List·Memᴰ·head e))
 mem-in (after i) (List·Memᴰ·tail (List·Memᴰ·head e)) = List·Memᴰ·head e
 mem-in (after i) (List·Memᴰ·tail (List·Memᴰ·tail m)) = List·Memᴰ·tail (mem-in i (List·Memᴰ·tail m))
 
+-- members, out of it
 mem-out : {c t : Tree} {ts us : List Tree} → Inserted t ts us → List·Memᴰ c us → List·Memᴰ c (t ∷ ts)
 mem-out at-front m = m
 mem-out (after i) (List·Memᴰ·head e) = List·Memᴰ·tail (List·Memᴰ·head e)
@@ -77,6 +84,7 @@ mem-out (after i) (List·Memᴰ·tail m) = swap (mem-out i m)
     swap (List·Memᴰ·head e) = List·Memᴰ·head e
     swap (List·Memᴰ·tail m) = List·Memᴰ·tail (List·Memᴰ·tail m)
 
+-- prefixes stay distinct
 apart-in : {t : Tree} {ts us : List Tree} → Inserted t ts us → Apart (t ∷ ts) → Apart us
 apart-in at-front h = h
 apart-in {t} (after {s} {ts} {us} i) h = (λ c m. go c (mem-out i m), apart-in i (λ c m. h .0 c (List·Memᴰ·tail m), h .1 .1))
@@ -87,21 +95,25 @@ apart-in {t} (after {s} {ts} {us} i) h = (λ c m. go c (mem-out i m), apart-in i
 
 -- ---- all trees, put in order one after another
 
+-- sums stay
 pub ordered-total : (g : Tree → ℕ) (ts : List Tree) → total (map g (ordered ts)) ≡ total (map g ts)
 unfolding total ordered
 ordered-total g [] = refl
 ordered-total g (t ∷ ts) = omega (arith, ordered-total g ts, total-in g (placed-in t (ordered ts)))
 
+-- lengths stay
 pub ordered-length : (ts : List Tree) → length (ordered ts) ≡ length ts
 unfolding ordered
 ordered-length [] = refl
 ordered-length (t ∷ ts) = length-in (placed-in t (ordered ts)) ∙ ap suc (ordered-length ts)
 
+-- each tree is asked
 pub ordered-has : {c : Tree} (ts : List Tree) → List·Memᴰ c ts → List·Memᴰ c (ordered ts)
 unfolding ordered
 ordered-has (t ∷ ts) (List·Memᴰ·head e) = mem-in (placed-in t (ordered ts)) (List·Memᴰ·head e)
 ordered-has (t ∷ ts) (List·Memᴰ·tail m) = mem-in (placed-in t (ordered ts)) (List·Memᴰ·tail (ordered-has ts m))
 
+-- and no other
 pub ordered-only : {c : Tree} (ts : List Tree) → List·Memᴰ c (ordered ts) → List·Memᴰ c ts
 unfolding ordered
 ordered-only [] m = m
@@ -111,6 +123,7 @@ ordered-only {c} (t ∷ ts) m = go (mem-out (placed-in t (ordered ts)) m) (order
     go (List·Memᴰ·head e) ih = List·Memᴰ·head e
     go (List·Memᴰ·tail m) ih = List·Memᴰ·tail (ih m)
 
+-- with distinct prefixes
 pub ordered-apart : (ts : List Tree) → Apart ts → Apart (ordered ts)
 unfolding ordered
 ordered-apart [] h = tt

@@ -31,6 +31,7 @@ Follows lim o first t u (s ∷ ss) =
 
 -- ---- the ids of step 1
 
+-- views are no fresh numbers
 views-old : (first : ℕ) (vs : List L0Row) → AllOld first (map viewId vs)
 views-old first [] = tt
 views-old first (v ∷ vs) = (tt, views-old first vs)
@@ -52,15 +53,18 @@ record Alike (first : ℕ) (o : Options) (t : Tree) (u v : SourceId → Bool) (p
   unmet : Unmet first o t (also u (p .spec))
   unmet′ : Unmet first o t (also v (q .spec))
 
+-- two trees asked: both give nothing, or both give picks that are alike
 abbrev Tandem : ℕ → Options → Tree → (SourceId → Bool) → (SourceId → Bool) → Option Picked → Option Picked → Type 0
 Tandem first o t u v a none = a ≡ none
 Tandem first o t u v a (some q) = (p : Picked) × (a ≡ some p) × Alike first o t u v p q
 
+-- the test of the fresh number follows from that of the rows
 no-fresh-test : (n x : Bool) → (n ≡ true → x ≡ false) → (n && (not x && true)) ≡ n
 no-fresh-test true x h = rw (h refl)
 no-fresh-test false x h = refl
 
 module _ (lim : ℕ → ℕ) (o : Options) (least : 1 ≤ o .min) (most : o .min ≤ o .max) (first : ℕ) (first≤ : first ≤ lastRun) (t : Tree) (below : Below first (idsOf (t .runs))) where
+  -- the window of step 2
   abbrev runs : (SourceId → Bool) → List ℕ
   runs u = window lim (o .min) (o .max) u (idsOf (t .runs)) (sizesOf (t .runs))
 
@@ -96,9 +100,11 @@ module _ (lim : ℕ → ℕ) (o : Options) (least : 1 ≤ o .min) (most : o .min
   unmet-runs u s old m =
       record { at = λ f h n. ap₂ _||_ (m .at f h (and-left (unused u (oldestIds o t)) _ (rw (unused-plus u (λ x. among x (specUses s)) (oldestIds o t)) at n))) (fresh-none (specUses s) old h) }
 
+  -- step 2's spec
   abbrev runSpec : ℕ → List ℕ → Spec
   runSpec i w = record { prefix = t .prefix; sources = map sortedRun (lastOf (o .max) (i ∷ w)); destination = last (i ∷ w) }
 
+  -- uses no fresh number
   old-window : (i : ℕ) (w : List ℕ) → Below first (i ∷ w) → AllOld first (specUses (runSpec i w))
   old-window i w b =
       old-append first (map sortedRun (lastOf (o .max) (i ∷ w))) (sortedRun (last (i ∷ w)))

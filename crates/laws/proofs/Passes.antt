@@ -33,15 +33,18 @@ module _ (p : Picked) (st : State) where
 module _ (lim : ℕ → ℕ) (o : Options) where
   -- ---- a pass, case by case
 
+  -- "the pass stops at the first tree met with no slot left"
   pub pass-stops : (t : Tree) (ts : List Tree) (st : State) → st .slots ≡ 0 → pass lim o (t ∷ ts) st ≡ st
   unfolding pass
   pass-stops t ts st e = rw (eq-eqb (st .slots) 0 e)
 
+  -- a tree without a pick
   pass-none : (t : Tree) (ts : List Tree) (st : State) → st .slots ≢ 0 → pick lim o (st .used (t .prefix)) (st .fresh) t ≡ none
       → pass lim o (t ∷ ts) st ≡ pass lim o ts st
   unfolding pass ask
   pass-none t ts st h e = rw (ne-eqb (st .slots) 0 h, e)
 
+  -- a tree with one
   pass-some : (t : Tree) (ts : List Tree) (st : State) (p : Picked) → st .slots ≢ 0 → pick lim o (st .used (t .prefix)) (st .fresh) t ≡ some p
       → pass lim o (t ∷ ts) st ≡ pass lim o ts (withPick (some p) st)
   unfolding pass ask
@@ -49,11 +52,13 @@ module _ (lim : ℕ → ℕ) (o : Options) where
 
   -- ---- passes, case by case
 
+  -- "Planning ends after a pass without a pick."
   pub passes-end : (ts : List Tree) (n passed : ℕ) (st : State) → picked st (pass lim o ts st) ≡ false
       → passesFrom lim o ts (suc n) passed st ≡ record { specs = pass lim o ts st .specs; passes = passed }
   unfolding passesFrom
   passes-end ts n passed st e = rw e
 
+  -- and goes on after one with a pick
   pub passes-go-on : (ts : List Tree) (n passed : ℕ) (st : State) → picked st (pass lim o ts st) ≡ true
       → passesFrom lim o ts (suc n) passed st ≡ passesFrom lim o ts n (suc passed) (pass lim o ts st)
   unfolding passesFrom
@@ -68,6 +73,7 @@ module _ (lim : ℕ → ℕ) (o : Options) where
     FollowAll used (t ∷ ts) [] = ⊥
     FollowAll used (t ∷ ts) (queue k l ∷ qs) = Follows lim o first t (used (t .prefix)) l × FollowAll used ts qs
 
+    -- what is used of other trees does not matter
     follow-same : (u v : ℕ → SourceId → Bool) (ts : List Tree) (qs : List (Queue Spec)) → ((c : Tree) → List·Memᴰ c ts → v (c .prefix) ≡ u (c .prefix)) → FollowAll u ts qs → FollowAll v ts qs
     follow-same u v [] [] e h = tt
     follow-same u v (t ∷ ts) (queue k l ∷ qs) e h =
@@ -81,6 +87,7 @@ module _ (lim : ℕ → ℕ) (o : Options) where
       fresh : first ≤ after .fresh
       others : (k : ℕ) → ((c : Tree) → List·Memᴰ c ts → c .prefix ≢ k) → after .used k ≡ st .used k
 
+    -- a pass over trees that follow lists hands out the heads
     pass-deals : (ts : List Tree) (qs : List (Queue Spec)) (s : ℕ) (st : State) → st .slots ≡ s → first ≤ st .fresh → Apart ts → FollowAll (st .used) ts qs
         → Passed st (pass lim o ts st) ts qs s
     unfolding pass
@@ -135,6 +142,7 @@ module _ (lim : ℕ → ℕ) (o : Options) where
     counts : {st after : State} {ts : List Tree} {qs : List (Queue Spec)} {s : ℕ} → Passed st after ts qs s → length (after .specs) ≡ length (st .specs) + length (heads qs s)
     counts r = simp (length-append, length-map) at (ap length (r .specs))
 
+    -- the passes of a call are a deal
     pub call-deals : (n passed : ℕ) (ts : List Tree) (qs : List (Queue Spec)) (st : State) → st .slots ≤ n → first ≤ st .fresh → Apart ts → FollowAll (st .used) ts qs
         → Dealt (passesFrom lim o ts n passed st) passed st qs
     unfolding passesFrom
@@ -176,6 +184,7 @@ module _ (lim : ℕ → ℕ) (o : Options) where
 -- ---- what every pick of a call keeps holds at its end
 module _ (lim : ℕ → ℕ) (o : Options) (ts : List Tree) (Holds : State → Type 0)
     (keeps : (t : Tree) (p : Picked) (st : State) → List·Memᴰ t ts → pick lim o (st .used (t .prefix)) (st .fresh) t ≡ some p → Holds st → Holds (withPick (some p) st)) where
+  -- one tree asked
   ask-keeps : (t : Tree) (st : State) → List·Memᴰ t ts → Holds st → Holds (ask lim o t st)
   unfolding ask
   ask-keeps t st m h = go (pick lim o (st .used (t .prefix)) (st .fresh) t) refl
@@ -184,6 +193,7 @@ module _ (lim : ℕ → ℕ) (o : Options) (ts : List Tree) (Holds : State → T
       go none e = h
       go (some p) e = keeps t p st m e h
 
+  -- one pass
   pass-keeps : (us : List Tree) (st : State) → ((t : Tree) → List·Memᴰ t us → List·Memᴰ t ts) → Holds st → Holds (pass lim o us st)
   unfolding pass
   pass-keeps [] st m h = h

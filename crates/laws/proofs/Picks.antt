@@ -23,6 +23,7 @@ use Rattle.laws.proofs.Windows.{window-free}
 abbrev pub rowsOf : Tree → List SourceId
 rowsOf t = map viewId (t .l0) ++ map sortedRun (idsOf (t .runs))
 
+-- as many as there are
 pub rows-length : (t : Tree) → length (rowsOf t) ≡ length (t .l0) + length (t .runs)
 rows-length t = simp (length-append, length-map)
 
@@ -32,11 +33,13 @@ oldestIds o t = map viewId (oldest o t)
 
 -- ---- the cases of a pick
 
+-- what was tested, and what was picked
 pub data Cases (lim : ℕ → ℕ) (o : Options) (u : SourceId → Bool) (f : ℕ) (t : Tree) (p : Picked) : Type 0 where
   takes-rows : takesRows lim o u f t ≡ true → p ≡ rowPick o f t → Cases lim o u f t p
   takes-runs : (i : ℕ) (w : List ℕ) → window lim (o .min) (o .max) u (idsOf (t .runs)) (sizesOf (t .runs)) ≡ i ∷ w → some p ≡ runPick o f t (i ∷ w) → Cases lim o u f t p
 
 module _ (lim : ℕ → ℕ) (o : Options) (u : SourceId → Bool) (f : ℕ) (t : Tree) where
+  -- the window of step 2
   abbrev runs : List ℕ
   runs = window lim (o .min) (o .max) u (idsOf (t .runs)) (sizesOf (t .runs))
 
@@ -60,18 +63,21 @@ module _ (lim : ℕ → ℕ) (o : Options) (u : SourceId → Bool) (f : ℕ) (t 
 
   -- ---- all that a pick uses was free
 
+  -- what holds of ids holds where the front is dropped
   all-drop : (p : SourceId → Bool) (k : ℕ) (ids : List ℕ) → all p (map sortedRun ids) ≡ true → all p (map sortedRun (drop k ids)) ≡ true
   unfolding all
   all-drop p zero ids h = h
   all-drop p (suc k) [] h = refl
   all-drop p (suc k) (i ∷ ids) h = all-drop p k ids (and-right (p (sortedRun i)) (all p (map sortedRun ids)) h)
 
+  -- all that step 1 uses
   rows-free : takesRows lim o u f t ≡ true → unused u (oldestIds o t ++ (sortedRun f ∷ [])) ≡ true
   unfolding takesRows passes
   rows-free h =
       and-left _ (not (heldBack lim (o .max) (total (l0SizesOf (oldest o t))) (sizesOf (t .runs))))
       (and-right (leb (o .min) (length (t .l0))) _ h)
 
+  -- and all that either step uses
   pub pick-free : (p : Picked) → pick lim o u f t ≡ some p → unused u (specUses (p .spec)) ≡ true
   pick-free p e = go (pick-cases p e)
     where
@@ -94,6 +100,7 @@ pub not-rows : (s : Spec) (ids : List ℕ) → s .sources ≡ map sortedRun ids 
 not-rows s [] e = rw e
 not-rows s (i ∷ ids) e = rw e
 
+-- where not all rows are dropped, one is left
 dropped-in : (j : ℕ) (l : List L0Row) → j < length l → (x : SourceId) × List·Memᴰ x (map viewId (drop j l)) × List·Memᴰ x (map viewId l)
 dropped-in j [] h = absurd (omega arith)
 dropped-in zero (v ∷ l) h = (viewId v, List·Memᴰ·head refl, List·Memᴰ·head refl)
@@ -105,10 +112,12 @@ module _ (lim : ℕ → ℕ) (o : Options) (least : 1 ≤ o .min) (most : o .min
   a-row h = dropped-in (length (t .l0) - o .max) (t .l0) (omega (arith, leb-true (o .min) (length (t .l0)) h))
 
   module _ (u : SourceId → Bool) (f : ℕ) where
+    -- step 1 has at least min rows
     pub enough-rows : takesRows lim o u f t ≡ true → leb (o .min) (length (t .l0)) ≡ true
     unfolding takesRows
     enough-rows h = and-left _ (passes lim (o .max) u (oldestIds o t) f (total (l0SizesOf (oldest o t))) (sizesOf (t .runs))) h
 
+    -- either step uses one
     pick-takes : (p : Picked) → pick lim o u f t ≡ some p → (x : SourceId) × List·Memᴰ x (rowsOf t) × List·Memᴰ x (specUses (p .spec))
     pick-takes p e = go (pick-cases lim o u f t p e)
       where

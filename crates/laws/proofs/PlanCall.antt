@@ -30,6 +30,7 @@ passed : (n : ℕ) (b : Bool) (later : ℕ) → (suc n given b else later) ≡ 0
 passed n true later h = absurd (omega arith)
 passed n false later h = (refl, h)
 
+-- parts of the test of a shape
 third-fifth-sixth : (a b c d e f g : Bool) → not (a && b && c && d && e && f && g) ≡ false → (c ≡ true) × (e ≡ true) × (f ≡ true)
 third-fifth-sixth a b c d e f g h =
     let six = and-left (a && b && c && d && e && f) g (not-false (a && b && c && d && e && f && g) h) in
@@ -72,6 +73,7 @@ module _ (o : Options) (t : LentTrees) (j : LentJobs) (p : LentPlan) where
       let bounds = good-bounds o (passed 2 (badOptions o) _ (h₂ .1) .0) in
       (rows-once t (or-left (treesMisshapen t) (jobsMisshapen j) (h₂ .0)), bounds .0, bounds .1)
 
+  -- what an accepted call proposes
   pub proposed : planRefusal o t j p ≡ 0 → Proposed o t j
   proposed h =
       let lim = limitOf (o .threshold) in
@@ -85,14 +87,17 @@ module _ (o : Options) (t : LentTrees) (j : LentJobs) (p : LentPlan) where
       }
 
   module _ (a : Accepted o t j p) where
+    -- demand 3's premises
     premises : Given o (treesOf t) (jobsOf j)
     premises =
         let good = accepted-good (a .accepted) in
         record { least = good .1; most = good .2; prefixes = good .0 .prefixes; room = rw (length-treesOf t) (a .room); below = a .below }
 
+    -- so demand 3 holds of its plan
     demanded : Demand3 (limitOf (o .threshold)) o (treesOf t) (jobsOf j)
     demanded = demand3 (limitOf (o .threshold)) o (treesOf t) (jobsOf j) premises
 
+    -- and of its answer
     pub demand3-call : Demand3Call o t j p
     unfolding planCall
     demand3-call = record {

@@ -34,6 +34,7 @@ record Part (w ids : List ℕ) : Type 0 where
   after : List ℕ
   place : ids ≡ before ++ (w ++ after)
 
+-- a window is
 window-part : (lim : ℕ → ℕ) (least most : ℕ) (u : SourceId → Bool) (ids sizes : List ℕ) → Part (window lim least most u ids sizes) ids
 unfolding window
 window-part lim least most u [] sizes = record { before = []; after = []; place = refl }
@@ -54,6 +55,7 @@ drop-part k {w} p = record {
       ∙ sym (append-assoc (p .before) (take k w) (drop k w ++ p .after));
 }
 
+-- and the last stays
 drop-last : (k : ℕ) (w : List ℕ) → k < length w → last (drop k w) ≡ last w
 unfolding last
 drop-last zero w h = refl
@@ -63,9 +65,11 @@ drop-last (suc k) (i ∷ (j ∷ w)) h = drop-last k (j ∷ w) (omega arith)
 
 -- ---- specs of tree k from L0 rows that have an id in common
 module _ (k : ℕ) (x : SourceId) where
+  -- those of step 1 that are for tree k
   abbrev rowsOfK : List Spec → List Spec
   rowsOfK ss = keep fromRows (of (λ s. s .prefix) k ss)
 
+  -- all of these have x
   abbrev HaveX : List Spec → Type 0
   HaveX ss = (s : Spec) → List·Memᴰ s ss → s .prefix ≡ k → fromRows s ≡ true → List·Memᴰ x (specUses s)
 
@@ -125,6 +129,7 @@ module _ (lim : ℕ → ℕ) (o : Options) (least : 1 ≤ o .min) (most : o .min
             destination = ap (λ (x : Picked). x .spec .destination) (Option·some-injective _ _ q) ∙ sym (drop-last (length (i ∷ w) - o .max) (i ∷ w) (omega arith));
           })
 
+  -- an entry of an own list
   own-made : (n : ℕ) (t : Tree) (u : SourceId → Bool) (f : ℕ) (s : Spec) → List·Memᴰ s (ownFirst lim o n u f t) → Made o t s
   unfolding ownFirst
   own-made zero t u f s m = absurd (List·Memᴰ·not-nil m)
@@ -139,9 +144,11 @@ module _ (lim : ℕ → ℕ) (o : Options) (least : 1 ≤ o .min) (most : o .min
       go (some p) e (List·Memᴰ·tail m) ih = ih p m
 
   -- ---- a call
+  -- the specs of a call so far
   abbrev AllMade : List Tree → State → Type 0
   AllMade ts st = (s : Spec) → List·Memᴰ s (st .specs) → (t : Tree) × List·Memᴰ t ts × Made o t s
 
+  -- with one pick more
   pick-all-made : (ts : List Tree) (t : Tree) (p : Picked) (st : State) → List·Memᴰ t ts → pick lim o (st .used (t .prefix)) (st .fresh) t ≡ some p → AllMade ts st → AllMade ts (withPick (some p) st)
   pick-all-made ts t p st m e a s n = go (List·Memᴰ·append-cases (st .specs) n)
     where
@@ -150,6 +157,7 @@ module _ (lim : ℕ → ℕ) (o : Options) (least : 1 ≤ o .min) (most : o .min
       go (inr k) = (t, m, subst (Made o t) (sym (List·Memᴰ·eq-of-singleton k)) (pick-made t (st .used (t .prefix)) (st .fresh) p e))
 
   module _ (ts : List Tree) (js : List Job) where
+    -- at the end
     plan-made : (s : Spec) → List·Memᴰ s (planned lim o ts js .specs) → (t : Tree) × List·Memᴰ t ts × Made o t s
     unfolding planned
     plan-made s m =
@@ -168,6 +176,7 @@ module _ (lim : ℕ → ℕ) (o : Options) (least : 1 ≤ o .min) (most : o .min
         go (inl r) e = subst (λ (y : Tree). OfRows o y s) e r
         go (inr r) e = absurd (true≢false (sym f ∙ not-rows s (r .ids) (r .sources)))
 
+    -- so step 1 is taken once
     rows-once : Apart ts → (t : Tree) → List·Memᴰ t ts → length (keep fromRows (gets (planned lim o ts js) t)) ≤ 1
     rows-once d t m = go (leb (o .min) (length (t .l0))) refl
       where
@@ -180,6 +189,7 @@ module _ (lim : ℕ → ℕ) (o : Options) (least : 1 ≤ o .min) (most : o .min
             one-left (t .prefix) (sortedRun 0) (planned lim o ts js .specs) (disjoint lim o ts js .once)
             (λ s n p f. absurd (omega (arith, rows-oldest d t m s n p f .enough, leb-false (o .min) (length (t .l0)) e)))
 
+    -- all together
     pub shapes : Shapes lim o ts js
     unfolding ownListOf ownList
     shapes = record {

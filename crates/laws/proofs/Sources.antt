@@ -25,6 +25,7 @@ use Rattle.laws.proofs.Distinct.{any-none, left-distinct, right-distinc
 use Rattle.laws.proofs.Disjoint.{disjoint}
 use Rattle.laws.proofs.Shapes.{shapes}
 
+-- ids that test the same are the same
 same-id : (x y : SourceId) → sameId x y ≡ true → x ≡ y
 same-id (sortedRun a) (sortedRun b) h = ap sortedRun (eqb-true a b h)
 same-id (sortedRun a) (sstView v) h = absurd (false≢true h)
@@ -33,11 +34,13 @@ same-id (sstView u) (sstView v) h = ap sstView (same-ulid u v h)
 
 -- ---- the rows of one tree, as ids
 
+-- rows with distinct views
 views-distinct : (vs : List L0Row) → distinct sameUlid (map (λ v. v .view) vs) ≡ true → distinct sameId (map viewId vs) ≡ true
 views-distinct vs h =
     let same : L0Row → L0Row → Bool = λ a b. sameUlid (a .view) (b .view) in
     distinct-map viewId sameId same (λ a b. refl) vs ∙ sym (distinct-map (λ v. v .view) sameUlid same (λ a b. refl) vs) ∙ h
 
+-- runs with distinct ids
 ids-distinct : (ids : List ℕ) → distinct eqb ids ≡ true → distinct sameId (map sortedRun ids) ≡ true
 ids-distinct ids h = distinct-map sortedRun sameId eqb (λ a b. refl) ids ∙ h
 
@@ -84,6 +87,7 @@ unfolding concatMap
 map-concat g f [] = refl
 map-concat {C = C} g f (x ∷ xs) = map-append g (f x) (concatMap f xs) ∙ ap (λ (r : List C). map g (f x) ++ r) (map-concat g f xs)
 
+-- a view is no run
 view-no-run : {x : SourceId} (vs : List L0Row) (ids : List ℕ) → List·Memᴰ x (map viewId vs) → List·Memᴰ x (map sortedRun ids) → ⊥
 view-no-run {x} vs ids a b = no (Memᴰ·of-map viewId vs a .2) (Memᴰ·of-map sortedRun ids b .2)
   where
@@ -91,9 +95,11 @@ view-no-run {x} vs ids a b = no (Memᴰ·of-map viewId vs a .2) (Memᴰ·of-map 
     no p q = let z : _≡_ {A = ℕ} 0 1 = cc in omega arith
 
 module _ {ts : List Tree} (once : RowsOnce ts) where
+  -- the rows of all trees
   all-views : distinct sameId (concatMap (λ t. map viewId (t .l0)) ts) ≡ true
   all-views = rw (← map-concat viewId (λ t. t .l0) ts) (views-distinct (l0Of ts) (once .views))
 
+  -- the runs of all trees
   all-runs : distinct sameId (concatMap (λ t. map sortedRun (idsOf (t .runs))) ts) ≡ true
   all-runs =
       rw (← map-concat sortedRun (λ t. idsOf (t .runs)) ts, ← map-concat (λ (r : Run). r .id) (λ t. t .runs) ts) (ids-distinct (idsOf (runsOf ts)) (once .runs))
@@ -108,6 +114,7 @@ module _ {ts : List Tree} (once : RowsOnce ts) where
   one-tree {t} {c} m n (inr a) (inl b) = absurd (view-no-run (c .l0) (idsOf (t .runs)) b a)
 
 module _ (lim : ℕ → ℕ) (o : Options) (least : 1 ≤ o .min) (most : o .min ≤ o .max) (ts : List Tree) (js : List Job) where
+  -- the specs of the plan
   abbrev specs : List Spec
   specs = planned lim o ts js .specs
 

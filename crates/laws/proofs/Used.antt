@@ -13,11 +13,13 @@ use Rattle.rules.proofs.Lookups.{and-left, and-right, ulid-same}
 -- ---- tests over lists
 
 module _ {A : Type 0} (p : A → Bool) where
+  -- a test of all, of two lists
   pub all-append : (xs ys : List A) → all p (xs ++ ys) ≡ (all p xs && all p ys)
   unfolding all
   all-append [] ys = refl
   all-append (x ∷ xs) ys = rw (all-append xs ys) (sym (and-assoc (p x) (all p xs) (all p ys)))
 
+  -- a test of some, of two lists
   pub any-append : (xs ys : List A) → any p (xs ++ ys) ≡ (any p xs || any p ys)
   unfolding any
   any-append [] ys = refl
@@ -37,10 +39,12 @@ module _ {A : Type 0} (p : A → Bool) where
 
 -- ---- ids in lists
 
+-- an id is the same as itself
 pub same-self : (x : SourceId) → sameId x x ≡ true
 same-self (sortedRun n) = eq-eqb n n refl
 same-self (sstView v) = ulid-same v v refl
 
+-- an id among two lists
 pub among-append : (x : SourceId) (u w : List SourceId) → among x (u ++ w) ≡ (among x u || among x w)
 among-append x u w = any-append (λ y. sameId y x) u w
 
@@ -55,14 +59,17 @@ abbrev pub Old : ℕ → SourceId → Type 0
 Old first (sortedRun n) = n < first
 Old first (sstView v) = Unit {0}
 
+-- a list of such ids
 abbrev pub AllOld : ℕ → List SourceId → Type 0
 AllOld first [] = Unit {0}
 AllOld first (x ∷ xs) = Old first x × AllOld first xs
 
+-- one more of them
 pub old-append : (first : ℕ) (xs : List SourceId) (x : SourceId) → AllOld first xs → Old first x → AllOld first (xs ++ (x ∷ []))
 old-append first [] x o p = (p, tt)
 old-append first (y ∷ xs) x o p = (o .0, old-append first xs x (o .1) p)
 
+-- such an id is no fresh number
 pub old-not-fresh : {first f : ℕ} (x : SourceId) → Old first x → first ≤ f → sameId (sortedRun f) x ≡ false
 old-not-fresh {first} {f} (sortedRun n) o h = ne-eqb f n (λ e. omega arith)
 old-not-fresh (sstView v) o h = refl
@@ -82,6 +89,7 @@ pub record Same (first : ℕ) (u v : SourceId → Bool) : Type 0 where
 abbrev pub unused : (SourceId → Bool) → List SourceId → Bool
 unused u xs = all (λ x. not (u x)) xs
 
+-- then the same lists are unused
 pub unused-same : {first : ℕ} {u v : SourceId → Bool} (xs : List SourceId) → Same first u v → AllOld first xs → unused u xs ≡ unused v xs
 unfolding all
 unused-same [] s o = refl
@@ -89,9 +97,11 @@ unused-same (x ∷ xs) s o = ap₂ (λ (a b : Bool). not a && b) (s .at x (o .0)
 
 -- ---- more that is used
 
+-- what u says is used, and what w says
 abbrev pub plus : (SourceId → Bool) → (SourceId → Bool) → SourceId → Bool
 plus u w x = u x || w x
 
+-- the laws of not
 neither : (a b c d : Bool) → (not (a || b) && (c && d)) ≡ ((not a && c) && (not b && d))
 neither true b c d = refl
 neither false true c d = sym (and-false c)
@@ -108,6 +118,7 @@ unfoldable pub free : (SourceId → Bool) → List SourceId → ℕ
 free u [] = 0
 free u (x ∷ xs) = cond (u x) (free u xs) (suc (free u xs))
 
+-- no more than all
 pub free-length : (u : SourceId → Bool) (xs : List SourceId) → free u xs ≤ length xs
 unfolding free
 free-length u [] = omega arith
@@ -115,6 +126,7 @@ free-length u (x ∷ xs) =
     elim (u x) as (λ c. cond c (free u xs) (suc (free u xs)) ≤ suc (length xs)) [ true ↦ omega (arith, free-length u xs) | false ↦ omega (arith, free-length u xs) ]
 
 module _ (u w : SourceId → Bool) where
+  -- what is used more leaves less free
   free-le : (xs : List SourceId) → free (plus u w) xs ≤ free u xs
   unfolding free
   free-le [] = omega arith

@@ -15,24 +15,29 @@ use Rattle.laws.proofs.Used.{AllOld, old-append, Same, unused, unused-s
 
 -- ---- run ids below the first fresh number
 
+-- a list of such ids
 abbrev pub Below : ℕ → List ℕ → Type 0
 Below first [] = Unit {0}
 Below first (i ∷ ids) = (i < first) × Below first ids
 
+-- as ids they are no fresh numbers
 pub below-old : (first : ℕ) (ids : List ℕ) → Below first ids → AllOld first (map sortedRun ids)
 below-old first [] b = tt
 below-old first (i ∷ ids) b = (b .0, below-old first ids (b .1))
 
+-- the first of them
 below-take : (first k : ℕ) (ids : List ℕ) → Below first ids → Below first (take k ids)
 below-take first zero ids b = tt
 below-take first (suc k) [] b = tt
 below-take first (suc k) (i ∷ ids) b = (b .0, below-take first k ids (b .1))
 
+-- the last of them
 pub below-drop : (first k : ℕ) (ids : List ℕ) → Below first ids → Below first (drop k ids)
 below-drop first zero ids b = b
 below-drop first (suc k) [] b = tt
 below-drop first (suc k) (i ∷ ids) b = below-drop first k ids (b .1)
 
+-- the very last
 pub below-last : (first i : ℕ) (ids : List ℕ) → Below first (i ∷ ids) → last (i ∷ ids) < first
 unfolding last
 below-last first i [] b = b .0
@@ -68,6 +73,7 @@ greatest-has p (suc n) k e = go (p (suc n)) refl e (greatest-has p n k)
 module _ (lim : ℕ → ℕ) (least most : ℕ) where
   -- ---- two tests that say the same of old ids have the same window
   module _ {first : ℕ} {u v : SourceId → Bool} (same : Same first u v) where
+    -- a beginning passes by both or by none
     beginning-same : (i : ℕ) (ids sizes : List ℕ) (k : ℕ) → Below first (i ∷ ids)
         → beginningPasses lim most u (i ∷ ids) sizes (suc k) ≡ beginningPasses lim most v (i ∷ ids) sizes (suc k)
     unfolding beginningPasses passes
@@ -77,16 +83,19 @@ module _ (lim : ℕ → ℕ) (least most : ℕ) where
         (unused-same (windowUses (take (suc k) (i ∷ ids))) same
         (old-append first (map sortedRun (take (suc k) (i ∷ ids))) _ (below-old first (take (suc k) (i ∷ ids)) t) (below-last first i (take k ids) t)))
 
+    -- and so all beginnings up to k
     beginnings-same : (i : ℕ) (ids sizes : List ℕ) (k : ℕ) → Below first (i ∷ ids)
         → upTo (beginningPasses lim most u (i ∷ ids) sizes) k ≡ upTo (beginningPasses lim most v (i ∷ ids) sizes) k
     unfolding upTo
     beginnings-same i ids sizes zero b = refl
     beginnings-same i ids sizes (suc k) b = ap₂ _&&_ (beginnings-same i ids sizes k b) (beginning-same i ids sizes k b)
 
+    -- the same lengths are eligible
     eligible-same : (i : ℕ) (ids sizes : List ℕ) → Below first (i ∷ ids) → eligible lim least most u (i ∷ ids) sizes ≡ eligible lim least most v (i ∷ ids) sizes
     unfolding eligible lasting
     eligible-same i ids sizes b = fun-ext (λ k. ap (λ (c : Bool). leb least k && (leb k (chain lim sizes) && c)) (beginnings-same i ids sizes k b))
 
+    -- so the same window is picked
     pub window-same : (ids sizes : List ℕ) → Below first ids → window lim least most u ids sizes ≡ window lim least most v ids sizes
     unfolding window
     window-same [] sizes b = refl
@@ -95,6 +104,7 @@ module _ (lim : ℕ → ℕ) (least most : ℕ) where
 
   -- ---- a window is made of free runs of the tree
   module _ (u : SourceId → Bool) where
+    -- what is eligible is unused
     eligible-free : (ids sizes : List ℕ) (k : ℕ) → eligible lim least most u ids sizes (suc k) ≡ true → unused u (windowUses (take (suc k) ids)) ≡ true
     unfolding eligible lasting upTo beginningPasses passes
     eligible-free ids sizes k e =
@@ -105,6 +115,7 @@ module _ (lim : ℕ → ℕ) (least most : ℕ) where
     abbrev pub Free : List ℕ → List ℕ → Type 0
     Free ids w = List·Memᴰ (sortedRun (last w)) (map sortedRun ids) × (unused u (windowUses w) ≡ true)
 
+    -- so a window is free
     pub window-free : (ids sizes : List ℕ) (i : ℕ) (w : List ℕ) → window lim least most u ids sizes ≡ i ∷ w → Free ids (i ∷ w)
     unfolding window
     window-free [] sizes i w e = absurd (nil≢cons e)
@@ -118,6 +129,7 @@ module _ (lim : ℕ → ℕ) (least most : ℕ) where
             subst (Free (j ∷ ids)) e
             (last-in k j ids, eligible-free (j ∷ ids) sizes k (greatest-has (eligible lim least most u (j ∷ ids) sizes) (length (j ∷ ids)) k h))
 
+    -- a window of such ids has such ids
     pub window-below : (first : ℕ) (ids sizes : List ℕ) → Below first ids → Below first (window lim least most u ids sizes)
     unfolding window
     window-below first [] sizes b = tt
