@@ -1,5 +1,5 @@
 -- What the specs of a plan are made of: a tree's oldest L0 rows, at most once in a call, or runs that stand one after another
--- and go to the last of them.
+-- and go to the last of them. Under options with 1 ≤ min ≤ max.
 use Prim.Native.Nat.{ℕ, _≤_}
 use mathlib.Core.Path.{_≡_}
 use mathlib.Core.Logic.{_⊎_}
