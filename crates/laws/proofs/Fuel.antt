@@ -3,24 +3,24 @@
 use Prim.Native.Nat.{ℕ, zero, suc, _+_, _≤_, _<_, min}
 use mathlib.Core.Path.{_≡_, refl, sym, ap, _∙_}
 use mathlib.Core.Logic.{_≢_}
-use mathlib.Core.List.{List, [], _∷_}
+use mathlib.Core.List.{List, [], _∷_, _++_, append-nil, append-assoc}
 use mathlib.Core.Bool.{Bool, true, false, cond, not, and-false}
 use mathlib.Core.Option.{Option, some, none}
 use native.Mathlib.Omega.{arith}
 use native.Mathlib.Decide.{decLe}
 use lib.Dec.{leb, eqb}
 use lib.ListN.{length, length-append}
-use borrow.Author.Tests.{eq-eqb, eqb-false, lt-leb, not-true}
+use borrow.Author.Tests.{eq-eqb, ne-eqb, eqb-false, lt-leb, not-true}
 use Rattle.rules.specs.declared.Options.{Options}
-use Rattle.rules.specs.Tables.{SourceId, Tree}
+use Rattle.rules.specs.Tables.{SourceId, Tree, among}
 use Rattle.rules.specs.Chain.{joined, chain}
-use Rattle.rules.specs.Windows.{lasting, eligible, greatest}
+use Rattle.rules.specs.Windows.{usedIds, lasting, eligible, greatest}
 use Rattle.rules.specs.Pick.{Spec, also, Picked, pick, andOn, ownFirst, ownList}
-use Rattle.rules.specs.Plan.{State, withPick, freeSlots, ask, pass, picked, passesFrom, ordered, start, planned}
+use Rattle.rules.specs.Plan.{State, Plan, withPick, firstFresh, freeSlots, placed, ordered, ask, pass, picked, passesFrom, start, planned, ownListOf}
 use Rattle.laws.specs.Fuel.{Fuel}
 use Rattle.laws.proofs.Used.{free, free-length}
-use Rattle.laws.proofs.Picks.{rowsOf, rows-length, fewer}
-use Rattle.laws.proofs.Passes.{pass-stops, passes-end, passes-go-on}
+use Rattle.laws.proofs.Picks.{rowsOf, rows-length, pick-prefix, fewer}
+use Rattle.laws.proofs.Passes.{used-mine, pass-stops, pass-none, pass-some, passes-end, passes-go-on}
 
 module _ (lim : ℕ → ℕ) (o : Options) where
   -- ---- own lists
@@ -76,6 +76,10 @@ module _ (lim : ℕ → ℕ) (o : Options) where
           let s : Spends st (ask lim o t st) = asked-spends (pick lim o (st .used (t .prefix)) (st .fresh) t) st (eqb-false (st .slots) 0 e) in
           (ih .0 ∙ s .0, omega arith)
 
+  -- as many specs as before is no pick
+  not-picked : (st : State) → picked st st ≡ false
+  not-picked st = ap not (eq-eqb (length (st .specs)) (length (st .specs)) refl)
+
   -- with no slot a pass does nothing
   pass-idle : (ts : List Tree) (st : State) → st .slots ≡ 0 → pass lim o ts st ≡ st
   unfolding pass
@@ -92,7 +96,7 @@ module _ (lim : ℕ → ℕ) (o : Options) where
   passes-none ts zero passed st h = refl
   passes-none ts (suc n) passed st h =
       let idle = pass-idle ts st (omega arith) in
-      passes-end lim o ts n passed st (rw idle (ap not (eq-eqb (length (st .specs)) (length (st .specs)) refl)))
+      passes-end lim o ts n passed st (rw idle (not-picked st))
       ∙ ap (λ (x : State). record { specs = x .specs; passes = passed }) idle
 
   -- two bounds that the slots do not pass give one plan
@@ -109,6 +113,33 @@ module _ (lim : ℕ → ℕ) (o : Options) where
           let s = pass-spends ts st in
           let d = eqb-false (length (after ts st .specs)) (length (st .specs)) (not-true _ e) in
           passes-go-on lim o ts n passed st e ∙ ih (omega arith) (omega arith) ∙ sym (passes-go-on lim o ts m passed st e)
+
+  -- ---- one tree, asked alone
+  alone-goes : (n passed : ℕ) (t : Tree) (st : State) → n ≤ st .slots → passesFrom lim o (t ∷ []) n passed st .specs ≡ st .specs ++ ownFirst lim o n (st .used (t .prefix)) (st .fresh) t
+  unfolding passesFrom ownFirst pass
+  alone-goes zero passed t st h = sym (append-nil (st .specs))
+  alone-goes (suc n) passed t st h = go (pick lim o u (st .fresh) t) refl (λ p. alone-goes n (suc passed) t (withPick (some p) st) (omega arith))
+    where
+      u : SourceId → Bool
+      u = st .used (t .prefix)
+
+      next : Picked → List Spec
+      next p = ownFirst lim o n (also u (p .spec)) (p .fresh) t
+
+      go : (a : Option Picked) → pick lim o u (st .fresh) t ≡ a
+          → ((p : Picked) → passesFrom lim o (t ∷ []) n (suc passed) (withPick (some p) st) .specs ≡ (st .specs ++ (p .spec ∷ [])) ++ ownFirst lim o n (withPick (some p) st .used (t .prefix)) (p .fresh) t)
+          → passesFrom lim o (t ∷ []) (suc n) passed st .specs ≡ st .specs ++ andOn a next
+      go none e ih =
+          let idle : pass lim o (t ∷ []) st ≡ st = pass-none lim o t [] st (λ z. omega arith) e in
+          ap (λ (r : Plan). r .specs) (passes-end lim o (t ∷ []) n passed st (rw idle (not-picked st))) ∙ ap (λ (x : State). x .specs) idle ∙ sym (append-nil (st .specs))
+      go (some p) e ih =
+          let gives : pass lim o (t ∷ []) st ≡ withPick (some p) st = pass-some lim o t [] st p (λ z. omega arith) e in
+          let more : picked st (withPick (some p) st) ≡ true = ap not (ne-eqb (length (st .specs ++ (p .spec ∷ []))) (length (st .specs)) (λ q. omega (arith, length-append (st .specs) (p .spec ∷ [])))) in
+          let mine = used-mine p st (t .prefix) (pick-prefix lim o u (st .fresh) t p e) in
+          ap (λ (r : Plan). r .specs) (passes-go-on lim o (t ∷ []) n passed st (rw gives more) ∙ ap (passesFrom lim o (t ∷ []) n (suc passed)) gives)
+          ∙ ih p
+          ∙ append-assoc (st .specs) (p .spec ∷ []) (ownFirst lim o n (withPick (some p) st .used (t .prefix)) (p .fresh) t)
+          ∙ ap (λ (w : SourceId → Bool). st .specs ++ (p .spec ∷ ownFirst lim o n w (p .fresh) t)) mine
 
   -- ---- windows
 
@@ -143,12 +174,18 @@ module _ (lim : ℕ → ℕ) (o : Options) where
   too-long used ids sizes k h = rw (lt-leb k (chain lim sizes) (omega (arith, chain-le sizes))) (and-false (leb (o .min) k))
 
   pub fuel : Fuel lim o
-  unfolding ownList planned
+  unfolding ownList ownListOf planned ordered placed
   fuel = record {
     own = λ least most used fresh t n h.
         let f = free-length used (rowsOf t) in
         let r = rows-length t in
         own-enough least most t n (length (t .l0) + length (t .runs)) used fresh (omega arith) (omega arith);
+    alone = λ least most t js h.
+        let u : SourceId → Bool = λ x. among x (usedIds js (t .prefix)) in
+        let f = free-length u (rowsOf t) in
+        let r = rows-length t in
+        alone-goes (freeSlots o js) 0 t (start o (t ∷ []) js) (omega arith)
+        ∙ own-enough least most t (freeSlots o js) (length (t .l0) + length (t .runs)) u (firstFresh (t ∷ []) js) (omega arith) (omega arith);
     passes = λ ts js n h. passes-enough (ordered ts) n (freeSlots o js) 0 (start o ts js) h (omega arith);
     windows = λ used ids sizes h n k. greatest-same (eligible lim (o .min) (o .max) used ids sizes) (length ids) n (λ i l. too-long used ids sizes i (omega arith)) k;
   }

@@ -22,7 +22,7 @@ use Rattle.laws.proofs.Order.{Apart}
 
 module _ (p : Picked) (st : State) where
   -- a pick is used of its own tree
-  used-mine : (k : ℕ) → p .spec .prefix ≡ k → withPick (some p) st .used k ≡ also (st .used k) (p .spec)
+  pub used-mine : (k : ℕ) → p .spec .prefix ≡ k → withPick (some p) st .used k ≡ also (st .used k) (p .spec)
   used-mine k e = fun-ext (λ x. ap (λ (c : Bool). st .used k x || (c && among x (specUses (p .spec)))) (eq-eqb (p .spec .prefix) k e))
 
   -- and of no other
@@ -39,13 +39,13 @@ module _ (lim : ℕ → ℕ) (o : Options) where
   pass-stops t ts st e = rw (eq-eqb (st .slots) 0 e)
 
   -- a tree without a pick
-  pass-none : (t : Tree) (ts : List Tree) (st : State) → st .slots ≢ 0 → pick lim o (st .used (t .prefix)) (st .fresh) t ≡ none
+  pub pass-none : (t : Tree) (ts : List Tree) (st : State) → st .slots ≢ 0 → pick lim o (st .used (t .prefix)) (st .fresh) t ≡ none
       → pass lim o (t ∷ ts) st ≡ pass lim o ts st
   unfolding pass ask
   pass-none t ts st h e = rw (ne-eqb (st .slots) 0 h, e)
 
   -- a tree with one
-  pass-some : (t : Tree) (ts : List Tree) (st : State) (p : Picked) → st .slots ≢ 0 → pick lim o (st .used (t .prefix)) (st .fresh) t ≡ some p
+  pub pass-some : (t : Tree) (ts : List Tree) (st : State) (p : Picked) → st .slots ≢ 0 → pick lim o (st .used (t .prefix)) (st .fresh) t ≡ some p
       → pass lim o (t ∷ ts) st ≡ pass lim o ts (withPick (some p) st)
   unfolding pass ask
   pass-some t ts st p h e = rw (ne-eqb (st .slots) 0 h, e)
