@@ -103,7 +103,7 @@ module _ {A B : Type 0} (f : A → B) (same : B → B → Bool) (same′ : A →
 
 module _ {A B : Type 0} (f : A → List B) where
   -- an entry of the whole is one of a part
-  mem-concat : {b : B} (xs : List A) → List·Memᴰ b (concatMap f xs) → (x : A) × List·Memᴰ x xs × List·Memᴰ b (f x)
+  pub mem-concat : {b : B} (xs : List A) → List·Memᴰ b (concatMap f xs) → (x : A) × List·Memᴰ x xs × List·Memᴰ b (f x)
   unfolding concatMap
   mem-concat [] m = absurd (List·Memᴰ·not-nil m)
   mem-concat {b} (x ∷ xs) m = go (List·Memᴰ·append-cases (f x) m) (mem-concat xs)

@@ -1,26 +1,29 @@
 -- Fresh numbers: the first, so long as it has not stopped, is above every committed run; from there on they rise, and each
 -- spec of step 1 takes one.
 use Prim.Native.Nat.{ℕ, _+_, _≤_, _<_, min, max}
-use mathlib.Core.Path.{_≡_, refl, sym, ap, _∙_}
+use mathlib.Core.Path.{_≡_, refl, sym, ap, ap₂, _∙_, subst}
 use mathlib.Core.Logic.{_⊎_, inl, inr}
-use mathlib.Core.List.{List, [], _∷_, _++_, map, map-append, List·Memᴰ, List·Memᴰ·head, List·Memᴰ·tail, List·Memᴰ·not-nil, List·Memᴰ·append-cases, List·Memᴰ·eq-of-singleton}
-use mathlib.Core.Bool.{Bool, true, false, _&&_, not, and-false, true≢false}
+use mathlib.Core.List.{List, [], _∷_, _++_, map, map-append, List·Memᴰ, List·Memᴰ·head, List·Memᴰ·tail, List·Memᴰ·not-nil, List·Memᴰ·append-cases, List·Memᴰ·eq-of-singleton, Memᴰ·map, Memᴰ·of-map}
+use mathlib.Core.Bool.{Bool, true, false, cond, _&&_, not, and-false, true≢false}
 use mathlib.Core.Option.{some, Option·some-injective}
 use native.Mathlib.Omega.{arith}
 use lib.Dec.{eqb}
 use lib.ListN.{length, length-append}
-use borrow.Author.Tests.{ne-eqb}
+use borrow.Author.Tests.{eqb-true, ne-eqb}
 use Rattle.rules.specs.declared.Options.{Options}
 use Rattle.rules.specs.Lists.{keep, concatMap, distinct, oneAbove, lastOf}
-use Rattle.rules.specs.Tables.{Run, Tree, Job, active, isDrain}
+use Rattle.rules.specs.Tables.{SourceId, sortedRun, sstView, Run, Tree, Source, Job, sameId, idOf, active, isDrain}
 use Rattle.rules.specs.Lent.{runsOf}
+use Rattle.rules.specs.Windows.{jobUses, usedIds}
 use Rattle.rules.specs.Pick.{Spec, lastRun, risen, Picked, idsOf, oldest, pick}
 use Rattle.rules.specs.Plan.{State, withPick, firstFresh, start}
-use Rattle.laws.specs.Demand3.{fromRows}
-use Rattle.laws.proofs.Windows.{Below}
+use Rattle.rules.proofs.Lookups.{and-left, and-right}
+use Rattle.laws.specs.Demand3.{fromRows, RunsBelow, SourcesBelow}
+use Rattle.laws.proofs.Used.{same-id, mem-any}
+use Rattle.laws.proofs.Windows.{Below, below-mem}
 use Rattle.laws.proofs.Picks.{Cases, takes-rows, takes-runs, pick-cases, rows-first, not-rows, a-row, enough-rows}
 use Rattle.laws.proofs.Deal.{keep-append}
-use Rattle.laws.proofs.Distinct.{none-any, distinct-last}
+use Rattle.laws.proofs.Distinct.{none-any, distinct-last, mem-concat}
 
 -- ---- the first
 
@@ -51,14 +54,87 @@ some-tree : {t : Tree} {ts : List Tree} → List·Memᴰ t ts → 1 ≤ length t
 some-tree (List·Memᴰ·head e) = omega arith
 some-tree (List·Memᴰ·tail m) = omega arith
 
--- every run of a tree is below it
-pub committed-below : (ts : List Tree) (js : List Job) → firstFresh ts js + length ts ≤ lastRun → (t : Tree) → List·Memᴰ t ts → Below (firstFresh ts js) (idsOf (t .runs))
-unfolding firstFresh
-committed-below ts js h t m =
-    above-below (firstFresh ts js) (idsOf (t .runs))
-    (omega (arith, above-append (idsOf (runsOf ts)) (map (λ j. j .destination) (keep (λ j. active j && not (isDrain j)) js)), one-of m, some-tree m))
+-- the destinations of active jobs
+abbrev destinations : List Job → List ℕ
+destinations js = map (λ j. j .destination) (keep (λ j. active j && not (isDrain j)) js)
 
--- how many specs are of step 1
+-- where it has not stopped it is one above all committed runs and active destinations
+not-stopped : (ts : List Tree) (js : List Job) → firstFresh ts js + length ts ≤ lastRun → {t : Tree} → List·Memᴰ t ts
+    → (oneAbove (idsOf (runsOf ts)) ≤ firstFresh ts js) × (oneAbove (destinations js) ≤ firstFresh ts js)
+unfolding firstFresh
+not-stopped ts js h m =
+    let both = above-append (idsOf (runsOf ts)) (destinations js) in
+    let one = some-tree m in
+    (omega arith, omega arith)
+
+-- so every run of a tree is below it
+pub committed-below : (ts : List Tree) (js : List Job) → firstFresh ts js + length ts ≤ lastRun → (t : Tree) → List·Memᴰ t ts → Below (firstFresh ts js) (idsOf (t .runs))
+committed-below ts js h t m = above-below (firstFresh ts js) (idsOf (t .runs)) (omega (arith, one-of m, not-stopped ts js h m .0))
+
+-- ---- the runs of active jobs
+
+-- a kept entry was there, and passed the test
+keep-mem : {A : Type 0} (p : A → Bool) {x : A} (xs : List A) → List·Memᴰ x (keep p xs) → List·Memᴰ x xs × (p x ≡ true)
+unfolding keep
+keep-mem p [] m = absurd (List·Memᴰ·not-nil m)
+keep-mem {A} p {x} (y ∷ ys) m = go (p y) refl m (keep-mem p ys)
+  where
+    go : (c : Bool) → p y ≡ c → List·Memᴰ x (cond c (y ∷ keep p ys) (keep p ys)) → (List·Memᴰ x (keep p ys) → List·Memᴰ x ys × (p x ≡ true)) → List·Memᴰ x (y ∷ ys) × (p x ≡ true)
+    go true e (List·Memᴰ·head q) ih = (List·Memᴰ·head q, ap p q ∙ e)
+    go true e (List·Memᴰ·tail m) ih = let r = ih m in (List·Memᴰ·tail (r .0), r .1)
+    go false e m ih = let r = ih m in (List·Memᴰ·tail (r .0), r .1)
+
+-- and one that passes is kept
+mem-keep : {A : Type 0} (p : A → Bool) {x : A} {xs : List A} → List·Memᴰ x xs → p x ≡ true → List·Memᴰ x (keep p xs)
+unfolding keep
+mem-keep p {x} (List·Memᴰ·head {x = y} {xs} e) h = rw (sym (ap p e) ∙ h) (List·Memᴰ·head e)
+mem-keep p {x} (List·Memᴰ·tail {x = y} {xs} m) h =
+    elim (p y) as (λ c. List·Memᴰ x (cond c (y ∷ keep p xs) (keep p xs))) [ true ↦ List·Memᴰ·tail (mem-keep p m h) | false ↦ mem-keep p m h ]
+
+module _ (ts : List Tree) (js : List Job) (room : firstFresh ts js + length ts ≤ lastRun) where
+  -- active destinations are below the first fresh number
+  destination-below : {t : Tree} → List·Memᴰ t ts → (j : Job) → List·Memᴰ j js → active j ≡ true → isDrain j ≡ false → j .destination < firstFresh ts js
+  destination-below m j n a d =
+      below-mem {ids = destinations js} (above-below (firstFresh ts js) (destinations js) (not-stopped ts js room m .1))
+      (Memᴰ·map (λ (x : Job). x .destination) (mem-keep (λ x. active x && not (isDrain x)) n (ap₂ (λ (b c : Bool). b && not c) a d)))
+
+  -- a run that a job uses is a source or its destination
+  job-run : {t : Tree} → List·Memᴰ t ts → (j : Job) → List·Memᴰ j js → active j ≡ true
+      → ((s : Source) → List·Memᴰ s (j .sources) → s .mark ≡ 1 → s .run < firstFresh ts js) → {n : ℕ} → List·Memᴰ (sortedRun n) (jobUses j) → n < firstFresh ts js
+  job-run m j k a h {n} u = go (List·Memᴰ·append-cases (map idOf (j .sources)) u)
+    where
+      source : (s : Source) → List·Memᴰ s (j .sources) → (c : Bool) → eqb (s .mark) 1 ≡ c → cond c (sortedRun (s .run)) (sstView (s .view)) ≡ sortedRun n → n < firstFresh ts js
+      source s i true e q = let same : s .run ≡ n = cc in rw (← same) (h s i (eqb-true (s .mark) 1 e))
+      source s i false e q = absurd (let z : _≡_ {A = ℕ} 0 1 = cc in omega arith)
+
+      destination : (c : Bool) → isDrain j ≡ c → List·Memᴰ (sortedRun n) (cond c [] (sortedRun (j .destination) ∷ [])) → n < firstFresh ts js
+      destination true e i = absurd (List·Memᴰ·not-nil i)
+      destination false e i =
+          let at : sortedRun n ≡ sortedRun (j .destination) = List·Memᴰ·eq-of-singleton i in
+          let same : n ≡ j .destination = cc in
+          rw same (destination-below m j k a e)
+
+      go : List·Memᴰ (sortedRun n) (map idOf (j .sources)) ⊎ List·Memᴰ (sortedRun n) (cond (isDrain j) [] (sortedRun (j .destination) ∷ [])) → n < firstFresh ts js
+      go (inl i) = let r = Memᴰ·of-map idOf (j .sources) i in source (r .0) (r .1) (eqb (r .0 .mark) 1) refl (r .2)
+      go (inr i) = destination (isDrain j) refl i
+
+  pub sources-suffice : SourcesBelow ts js → RunsBelow ts js
+  unfolding usedIds
+  sources-suffice h t m n u =
+      let found = mem-any (λ y. sameId y (sortedRun n)) (usedIds js (t .prefix)) u in
+      let of = mem-concat jobUses (keep mine js) (found .1) in
+      let there = keep-mem mine js (of .1) in
+      let j = of .0 in
+      job-run m j (there .0) (and-left (active j) (eqb (j .prefix) (t .prefix)) (there .1))
+      (h t m j (there .0) (and-left (active j) (eqb (j .prefix) (t .prefix)) (there .1)) (eqb-true (j .prefix) (t .prefix) (and-right (active j) (eqb (j .prefix) (t .prefix)) (there .1))))
+      (subst (λ (x : SourceId). List·Memᴰ x (jobUses j)) (same-id (found .0) (sortedRun n) (found .2)) (of .2))
+    where
+      mine : Job → Bool
+      mine j = active j && eqb (j .prefix) (t .prefix)
+
+-- ---- specs of step 1
+
+-- how many there are
 abbrev pub rowSpecs : List Spec → ℕ
 rowSpecs ss = length (keep fromRows ss)
 

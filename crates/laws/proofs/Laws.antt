@@ -1,5 +1,6 @@
 -- THE STATEMENT: all laws hold.
 use Rattle.laws.specs.Laws.{Laws}
+use Rattle.laws.proofs.Fresh.{sources-suffice}
 use Rattle.laws.proofs.Demand3.{demand3}
 use Rattle.laws.proofs.Fuel.{fuel}
 use Rattle.laws.proofs.Disjoint.{disjoint}
@@ -10,6 +11,7 @@ use Rattle.laws.proofs.PlanCall.{demand3-call, proposed}
 pub laws : Laws
 laws = record {
   demand3 = demand3;
+  sourcesSuffice = sources-suffice;
   demand3Call = demand3-call;
   proposed = proposed;
   fuel = fuel;

@@ -20,7 +20,7 @@ use Rattle.laws.specs.Disjoint.{sharing}
 use Rattle.laws.specs.Shapes.{OfRows, OfRuns}
 use Rattle.laws.specs.NamesOnce.{RowsOnce, NamesOnce}
 use Rattle.laws.proofs.Deal.{of}
-use Rattle.laws.proofs.Windows.{Below, last-mem}
+use Rattle.laws.proofs.Windows.{below-mem, last-mem}
 use Rattle.laws.proofs.Picks.{a-row, rows-first}
 use Rattle.laws.proofs.Fresh.{committed-below, rowSpecs, rowClash, Rising, pick-rises, start-rises}
 use Rattle.laws.proofs.Passes.{call-keeps}
@@ -77,11 +77,6 @@ rows-by-tree ts (s ∷ ss) h = go (fromRows s) refl (rows-by-tree ts ss (λ r m.
         omega (arith, total-lt (rowSpecsOf ss) (rowSpecsOf (s ∷ ss)) (rows-grow s ss) (x .1) mine)
 
 -- ---- all together
-
--- each of some ids below a number is below it
-below-mem : {first i : ℕ} {ids : List ℕ} → Below first ids → List·Memᴰ i ids → i < first
-below-mem {first} b (List·Memᴰ·head e) = rw e (b .0)
-below-mem b (List·Memᴰ·tail m) = below-mem (b .1) m
 
 module _ (lim : ℕ → ℕ) (o : Options) (least : 1 ≤ o .min) (most : o .min ≤ o .max) (ts : List Tree) (js : List Job) where
   abbrev specs : List Spec

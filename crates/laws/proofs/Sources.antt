@@ -4,7 +4,7 @@ use Prim.Native.Nat.{ℕ, _-_, _≤_}
 use mathlib.Core.Path.{_≡_, refl, sym, ap, _∙_, subst}
 use mathlib.Core.Logic.{_⊎_, inl, inr}
 use mathlib.Core.List.{List, [], _∷_, _++_, map, map-append, List·Memᴰ, Memᴰ·append-left, Memᴰ·append-right, Memᴰ·of-map}
-use mathlib.Core.Bool.{Bool, true, false, false≢true}
+use mathlib.Core.Bool.{Bool, true, false}
 use native.Mathlib.Omega.{arith}
 use lib.Dec.{eqb}
 use lib.ListN.{length, take, drop, take-append-drop}
@@ -16,21 +16,13 @@ use Rattle.rules.specs.Lent.{l0Of, runsOf}
 use Rattle.rules.specs.Pick.{Spec, specUses, idsOf}
 use Rattle.rules.specs.Plan.{planned, ownListOf}
 use Rattle.rules.specs.Planning.{specSources}
-use Rattle.rules.proofs.Lookups.{same-ulid}
 use Rattle.laws.specs.Disjoint.{sharing}
 use Rattle.laws.specs.Shapes.{OfRows, OfRuns, Made}
 use Rattle.laws.specs.NamesOnce.{RowsOnce}
-use Rattle.laws.proofs.Used.{same-self}
+use Rattle.laws.proofs.Used.{same-self, same-id}
 use Rattle.laws.proofs.Distinct.{any-none, left-distinct, right-distinct, distinct-map, one-part, part-distinct, distinct-concat}
 use Rattle.laws.proofs.Disjoint.{disjoint}
 use Rattle.laws.proofs.Shapes.{shapes}
-
--- ids that test the same are the same
-same-id : (x y : SourceId) → sameId x y ≡ true → x ≡ y
-same-id (sortedRun a) (sortedRun b) h = ap sortedRun (eqb-true a b h)
-same-id (sortedRun a) (sstView v) h = absurd (false≢true h)
-same-id (sstView u) (sortedRun b) h = absurd (false≢true h)
-same-id (sstView u) (sstView v) h = ap sstView (same-ulid u v h)
 
 -- ---- the rows of one tree, as ids
 

@@ -1,14 +1,14 @@
 -- What is used, as a test on ids: when two tests say the same of all ids but fresh numbers, and how many ids are free.
 use Prim.Native.Nat.{ℕ, suc, _≤_, _<_}
-use mathlib.Core.Path.{_≡_, refl, sym, ap₂}
+use mathlib.Core.Path.{_≡_, refl, sym, ap, ap₂}
 use mathlib.Core.List.{List, [], _∷_, _++_, List·Memᴰ, List·Memᴰ·head, List·Memᴰ·tail}
-use mathlib.Core.Bool.{Bool, true, false, cond, _&&_, _||_, not, and-assoc, or-assoc, or-true, and-false}
+use mathlib.Core.Bool.{Bool, true, false, cond, _&&_, _||_, not, and-assoc, or-assoc, or-true, and-false, false≢true}
 use native.Mathlib.Omega.{arith}
 use lib.ListN.{length}
-use borrow.Author.Tests.{eq-eqb, ne-eqb}
+use borrow.Author.Tests.{eqb-true, eq-eqb, ne-eqb}
 use Rattle.rules.specs.Lists.{any, all}
 use Rattle.rules.specs.Tables.{SourceId, sortedRun, sstView, sameId, among}
-use Rattle.rules.proofs.Lookups.{and-left, and-right, ulid-same}
+use Rattle.rules.proofs.Lookups.{and-left, and-right, same-ulid, ulid-same}
 
 -- ---- tests over lists
 
@@ -37,12 +37,29 @@ module _ {A : Type 0} (p : A → Bool) where
   any-mem (List·Memᴰ·head {x = y} {xs} e) h = rw (← e, h)
   any-mem (List·Memᴰ·tail {x = y} {xs} m) h = rw (any-mem m h) (or-true (p y))
 
+  -- and back: what holds of some holds of one
+  pub mem-any : (xs : List A) → any p xs ≡ true → (x : A) × List·Memᴰ x xs × (p x ≡ true)
+  unfolding any
+  mem-any [] h = absurd (false≢true h)
+  mem-any (x ∷ xs) h = go (p x) refl h (mem-any xs)
+    where
+      go : (c : Bool) → p x ≡ c → (c || any p xs) ≡ true → (any p xs ≡ true → (y : A) × List·Memᴰ y xs × (p y ≡ true)) → (y : A) × List·Memᴰ y (x ∷ xs) × (p y ≡ true)
+      go true e h ih = (x, List·Memᴰ·head refl, e)
+      go false e h ih = let r = ih h in (r .0, List·Memᴰ·tail (r .1), r .2)
+
 -- ---- ids in lists
 
 -- an id is the same as itself
 pub same-self : (x : SourceId) → sameId x x ≡ true
 same-self (sortedRun n) = eq-eqb n n refl
 same-self (sstView v) = ulid-same v v refl
+
+-- ids that test the same are the same
+pub same-id : (x y : SourceId) → sameId x y ≡ true → x ≡ y
+same-id (sortedRun a) (sortedRun b) h = ap sortedRun (eqb-true a b h)
+same-id (sortedRun a) (sstView v) h = absurd (false≢true h)
+same-id (sstView u) (sortedRun b) h = absurd (false≢true h)
+same-id (sstView u) (sstView v) h = ap sstView (same-ulid u v h)
 
 -- an id among two lists
 pub among-append : (x : SourceId) (u w : List SourceId) → among x (u ++ w) ≡ (among x u || among x w)

@@ -43,6 +43,11 @@ unfolding last
 below-last first i [] b = b .0
 below-last first i (j ∷ ids) b = below-last first j ids (b .1)
 
+-- each of some ids below a number is below it
+pub below-mem : {first i : ℕ} {ids : List ℕ} → Below first ids → List·Memᴰ i ids → i < first
+below-mem {first} b (List·Memᴰ·head e) = rw e (b .0)
+below-mem b (List·Memᴰ·tail m) = below-mem (b .1) m
+
 -- the last id is one of them
 pub last-mem : (ids : List ℕ) → 1 ≤ length ids → List·Memᴰ (last ids) ids
 unfolding last

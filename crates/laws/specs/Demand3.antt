@@ -8,7 +8,7 @@ use lib.Dec.{eqb}
 use lib.ListN.{length, take}
 use Rattle.rules.specs.declared.Options.{Options}
 use Rattle.rules.specs.Lists.{keep, total, distinct}
-use Rattle.rules.specs.Tables.{SourceId, sortedRun, sstView, Tree, Job, among}
+use Rattle.rules.specs.Tables.{SourceId, sortedRun, sstView, Tree, Source, Job, among, active}
 use Rattle.rules.specs.Windows.{usedIds}
 use Rattle.rules.specs.Pick.{Spec, lastRun}
 use Rattle.rules.specs.Plan.{Plan, firstFresh, freeSlots, planned, ownListOf}
@@ -35,6 +35,17 @@ abbrev pub largest : List ℕ → ℕ
 largest [] = 0
 largest (n ∷ ns) = max n (largest ns)
 
+-- every run number in a tree's active jobs is below the first fresh number: the runs among their sources, those of drains too,
+-- and the destinations of the tiered ones
+abbrev pub RunsBelow : List Tree → List Job → Type 0
+RunsBelow ts js = (t : Tree) → List·Memᴰ t ts → (n : ℕ) → among (sortedRun n) (usedIds js (t .prefix)) ≡ true → n < firstFresh ts js
+
+-- the runs among their sources: the destinations are below by themselves
+abbrev pub SourcesBelow : List Tree → List Job → Type 0
+SourcesBelow ts js =
+    (t : Tree) → List·Memᴰ t ts → (j : Job) → List·Memᴰ j js → active j ≡ true → j .prefix ≡ t .prefix
+    → (s : Source) → List·Memᴰ s (j .sources) → s .mark ≡ 1 → s .run < firstFresh ts js
+
 -- demand 3's premises. The first three hold wherever planning is not refused
 pub record Given (o : Options) (ts : List Tree) (js : List Job) : Type 0 where
   -- 1 ≤ min ≤ max
@@ -44,9 +55,8 @@ pub record Given (o : Options) (ts : List Tree) (js : List Job) : Type 0 where
   pub prefixes : distinct eqb (map (λ t. t .prefix) ts) ≡ true
   -- the first fresh number plus T is at most 4,294,967,295
   pub room : firstFresh ts js + length ts ≤ lastRun
-  -- every run number in a tree's active jobs is below the first fresh number: the runs among their sources, those of drains
-  -- too, and the destinations of the tiered ones
-  pub below : (t : Tree) → List·Memᴰ t ts → (n : ℕ) → among (sortedRun n) (usedIds js (t .prefix)) ≡ true → n < firstFresh ts js
+  -- every run number in a tree's active jobs is below that first number
+  pub below : RunsBelow ts js
 
 pub record Demand3 (lim : ℕ → ℕ) (o : Options) (ts : List Tree) (js : List Job) : Type 0 where
   -- (a) the plan has F specs, or where that is less, as many as all own lists together

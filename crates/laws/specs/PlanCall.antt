@@ -1,5 +1,5 @@
 -- Demand 3 of the public planning call, and what the call proposes: wherever it is not refused, whatever slices it is lent.
-use Prim.Native.Nat.{ℕ, _+_, _/_, _≤_, _<_, min}
+use Prim.Native.Nat.{_+_, _/_, _≤_, min}
 use mathlib.Core.Path.{_≡_}
 use mathlib.Core.List.{List, map, List·Memᴰ}
 use mathlib.Core.Bool.{true}
@@ -8,15 +8,14 @@ use lib.ListN.{length, take}
 use Rattle.rules.specs.declared.Options.{Options}
 use Rattle.rules.specs.declared.PlanAnswer.the-variants.{Planned}
 use Rattle.rules.specs.Lists.{distinct, total}
-use Rattle.rules.specs.Tables.{sortedRun, Tree, sameId, among}
+use Rattle.rules.specs.Tables.{Tree, sameId}
 use Rattle.rules.specs.Lent.{LentTrees, LentJobs, treesOf, jobsOf}
 use Rattle.rules.specs.Limit.{limitOf}
-use Rattle.rules.specs.Windows.{usedIds}
 use Rattle.rules.specs.Pick.{Spec, lastRun}
 use Rattle.rules.specs.Plan.{Plan, firstFresh, freeSlots, planned, ownListOf}
 use Rattle.rules.specs.Planning.{LentPlan, planRefusal, specSources, layPlan}
 use Rattle.rules.specs.Calls.{planCall}
-use Rattle.laws.specs.Demand3.{gets, aside, largest}
+use Rattle.laws.specs.Demand3.{gets, aside, largest, RunsBelow}
 use Rattle.laws.specs.Disjoint.{Disjoint}
 use Rattle.laws.specs.Shapes.{Shapes}
 
@@ -33,8 +32,8 @@ pub record Accepted (o : Options) (t : LentTrees) (j : LentJobs) (p : LentPlan) 
   pub accepted : planRefusal o t j p ≡ 0
   -- the first fresh number plus T is at most 4,294,967,295
   pub room : firstFresh (treesOf t) (jobsOf j) + t .count ≤ lastRun
-  -- every run number in a tree's active jobs is below the first fresh number
-  pub below : (x : Tree) → List·Memᴰ x (treesOf t) → (n : ℕ) → among (sortedRun n) (usedIds (jobsOf j) (x .prefix)) ≡ true → n < firstFresh (treesOf t) (jobsOf j)
+  -- every run number in a tree's active jobs is below that first number
+  pub below : RunsBelow (treesOf t) (jobsOf j)
 
 pub record Demand3Call (o : Options) (t : LentTrees) (j : LentJobs) (p : LentPlan) : Type 0 where
   -- (a) and (d) as the answer has them: the specs are F, or where that is less, as many as all own lists together; the
