@@ -3,12 +3,13 @@ use Prim.Native.Nat.{ℕ, zero, suc, _+_, _-_, _*_, _≤_, _<_, min}
 use mathlib.Core.Path.{_≡_, refl, sym, ap, _∙_}
 use mathlib.Core.Logic.{_⊎_, inl, inr, _≢_}
 use mathlib.Core.List.{List, [], _∷_, _++_, nil≢cons}
-use mathlib.Core.Bool.{Bool, true, false, cond}
+use mathlib.Core.Bool.{true, false, cond}
 use native.Mathlib.Omega.{arith}
 use lib.Dec.{eqb}
 use lib.ListN.{length, take, length-append, length-take}
 use borrow.Author.Tests.{eq-eqb, ne-eqb}
 use Rattle.rules.specs.Lists.{keep}
+use Rattle.laws.proofs.Used.{keep-append}
 
 -- a key, and the entries that are waiting under it
 pub data Queue (A : Type 0) : Type 0 where
@@ -37,7 +38,8 @@ module _ {A : Type 0} where
   -- passes until one hands out nothing: what was handed out, and in how many passes
   pub data Deal : List (Queue A) → ℕ → List A → ℕ → Type 0 where
     done : {qs : List (Queue A)} {s : ℕ} → heads qs s ≡ [] → Deal qs s [] 0
-    more : {qs : List (Queue A)} {s : ℕ} {x : A} {xs ys : List A} {n : ℕ} → heads qs s ≡ x ∷ xs → Deal (rests qs s) (s - length (heads qs s)) ys n
+    more : {qs : List (Queue A)} {s : ℕ} {x : A} {xs ys : List A} {n : ℕ} → heads qs s ≡ x ∷ xs
+        → Deal (rests qs s) (s - length (heads qs s)) ys n
         → Deal qs s (heads qs s ++ ys) (suc n)
 
   -- the queue of k holds l
@@ -97,14 +99,6 @@ module _ {A : Type 0} where
   length-rests (queue k [] ∷ qs) s = ap suc (length-rests qs s)
   length-rests (queue k (x ∷ l) ∷ qs) zero = refl
   length-rests (queue k (x ∷ l) ∷ qs) (suc s) = ap suc (length-rests qs s)
-
--- the kept entries of two lists
-pub keep-append : {A : Type 0} (p : A → Bool) (xs ys : List A) → keep p (xs ++ ys) ≡ keep p xs ++ keep p ys
-unfolding keep
-keep-append p [] ys = refl
-keep-append p (x ∷ xs) ys =
-    rw (keep-append p xs ys)
-    (elim (p x) as (λ c. cond c (x ∷ (keep p xs ++ keep p ys)) (keep p xs ++ keep p ys) ≡ cond c (x ∷ keep p xs) (keep p xs) ++ keep p ys) [ true ↦ refl | false ↦ refl ])
 
 -- ---- who got what
 module _ {A : Type 0} (key : A → ℕ) where
@@ -186,7 +180,8 @@ module _ {A : Type 0} (key : A → ℕ) where
   turn-past (spent a b o i) = spent a (omega arith) o (there i)
 
   -- a turn behind a queue that gives its head
-  turn-next : {k : ℕ} {l : List A} {j : ℕ} (x : A) (m : List A) {qs : List (Queue A)} {s : ℕ} → key x ≢ k → Turn k l qs s → Turn k l (queue j (x ∷ m) ∷ qs) (suc s)
+  turn-next : {k : ℕ} {l : List A} {j : ℕ} (x : A) (m : List A) {qs : List (Queue A)} {s : ℕ} → key x ≢ k → Turn k l qs s
+      → Turn k l (queue j (x ∷ m) ∷ qs) (suc s)
   turn-next {k} x m {qs} {s} h (got y l′ e o i) = got y l′ e (of-other k x (heads qs s) h ∙ o) (there i)
   turn-next {k} x m {qs} {s} h (empty e o i) = empty e (of-other k x (heads qs s) h ∙ o) (there i)
   turn-next {k} x m {qs} {s} h (spent a b o i) = spent (omega arith) (omega arith) (of-other k x (heads qs s) h ∙ o) (there i)
@@ -210,7 +205,8 @@ module _ {A : Type 0} (key : A → ℕ) where
   -- ---- the shares
 
   -- a queue gives its entries from the front
-  pub in-order : {qs : List (Queue A)} {s : ℕ} {xs : List A} {n : ℕ} {k : ℕ} {l : List A} → Keyed qs → In k l qs → Deal qs s xs n → of k xs ≡ take (length (of k xs)) l
+  pub in-order : {qs : List (Queue A)} {s : ℕ} {xs : List A} {n : ℕ} {k : ℕ} {l : List A} → Keyed qs → In k l qs
+      → Deal qs s xs n → of k xs ≡ take (length (of k xs)) l
   unfolding keep
   in-order g i (done e) = refl
   in-order {k = k} {l} g i (more {qs} {s} {ys = ys} e d) = rw (of-append k (heads qs s) ys) (go (turn qs s g i) (λ l′ i′. in-order (keyed-rests qs s g) i′ d))
@@ -222,7 +218,8 @@ module _ {A : Type 0} (key : A → ℕ) where
       go (spent a b o i′) ih = rw o (ih l i′)
 
   -- no more than it holds
-  share-le : {qs : List (Queue A)} {s : ℕ} {xs : List A} {n : ℕ} {k : ℕ} {l : List A} → Keyed qs → In k l qs → Deal qs s xs n → length (of k xs) ≤ length l
+  share-le : {qs : List (Queue A)} {s : ℕ} {xs : List A} {n : ℕ} {k : ℕ} {l : List A} → Keyed qs → In k l qs
+      → Deal qs s xs n → length (of k xs) ≤ length l
   share-le {xs = xs} {k = k} {l} g i d = omega (arith, simp length-take at (ap length (in-order g i d)))
 
   -- q entries, or all that it holds, where there are slots for q from every queue
@@ -239,7 +236,8 @@ module _ {A : Type 0} (key : A → ℕ) where
   fair {k = k} {l} g i (more {qs} {s} {ys = ys} e d) (suc q) h =
       rw (of-append k (heads qs s) ys) (go (turn qs s g i) (λ l′ i′ h′. fair (keyed-rests qs s g) i′ d q h′))
     where
-      go : Turn k l qs s → ((l′ : List A) → In k l′ (rests qs s) → q * length (rests qs s) ≤ s - length (heads qs s) → min (length l′) q ≤ length (of k ys))
+      go : Turn k l qs s
+          → ((l′ : List A) → In k l′ (rests qs s) → q * length (rests qs s) ≤ s - length (heads qs s) → min (length l′) q ≤ length (of k ys))
           → min (length l) (suc q) ≤ length (of k (heads qs s) ++ of k ys)
       go (got x l′ c o i′) ih = rw (o, c) (omega (arith, ih l′ i′ (rw length-rests (omega (arith, heads-few qs s)))))
       go (empty c o i′) ih = rw c (omega arith)
@@ -248,12 +246,14 @@ module _ {A : Type 0} (key : A → ℕ) where
   -- ---- the passes
 
   -- at most one entry a pass
-  pub atMost : {qs : List (Queue A)} {s : ℕ} {xs : List A} {n : ℕ} {k : ℕ} {l : List A} → Keyed qs → In k l qs → Deal qs s xs n → length (of k xs) ≤ n
+  pub atMost : {qs : List (Queue A)} {s : ℕ} {xs : List A} {n : ℕ} {k : ℕ} {l : List A} → Keyed qs → In k l qs
+      → Deal qs s xs n → length (of k xs) ≤ n
   unfolding keep
   atMost g i (done e) = omega arith
   atMost {k = k} {l} g i (more {qs} {s} {ys = ys} {n} e d) = rw (of-append k (heads qs s) ys) (go (turn qs s g i) (λ l′ i′. atMost (keyed-rests qs s g) i′ d))
     where
-      go : Turn k l qs s → ((l′ : List A) → In k l′ (rests qs s) → length (of k ys) ≤ n) → length (of k (heads qs s) ++ of k ys) ≤ suc n
+      go : Turn k l qs s → ((l′ : List A) → In k l′ (rests qs s) → length (of k ys) ≤ n)
+          → length (of k (heads qs s) ++ of k ys) ≤ suc n
       go (got x l′ c o i′) ih = rw o (omega (arith, ih l′ i′))
       go (empty c o i′) ih = rw o (omega (arith, ih l i′))
       go (spent a b o i′) ih = rw o (omega (arith, ih l i′))
@@ -285,7 +285,8 @@ module _ {A : Type 0} (key : A → ℕ) where
       one : n ≡ 0 → Most qs (heads qs s ++ ys) (suc n)
       one z = let r = first qs s g e in (r .0, r .1, r .2, rw (of-append (r .0) (heads qs s) ys, length-append) (omega (arith, r .3)))
 
-      go : {k : ℕ} {l m : List A} → In k l (rests qs s) → In k m qs → n ≤ length (of k ys) → Turn k m qs s → Most qs (heads qs s ++ ys) (suc n)
+      go : {k : ℕ} {l m : List A} → In k l (rests qs s) → In k m qs → n ≤ length (of k ys) → Turn k m qs s
+          → Most qs (heads qs s ++ ys) (suc n)
       go {k} {l} {m} i′ i h (got x l′ c o p) = (k, m, i, rw (of-append k (heads qs s) ys, o) (omega arith))
       go {k} i′ i h (empty c o p) = one (omega (arith, share-le (keyed-rests qs s g) p d, ap length c))
       go {k} i′ i h (spent a b o p) = one (omega (arith, dealt d, length-of k ys))

@@ -28,7 +28,8 @@ abbrev prefixOf : Spec → ℕ
 prefixOf s = s .prefix
 
 -- a tree's own list is for that tree
-own-prefix : (lim : ℕ → ℕ) (o : Options) (n : ℕ) (u : SourceId → Bool) (f : ℕ) (t : Tree) → AllOf prefixOf (t .prefix) (map aside (ownFirst lim o n u f t))
+own-prefix : (lim : ℕ → ℕ) (o : Options) (n : ℕ) (u : SourceId → Bool) (f : ℕ) (t : Tree)
+    → AllOf prefixOf (t .prefix) (map aside (ownFirst lim o n u f t))
 unfolding ownFirst
 own-prefix lim o zero u f t = tt
 own-prefix lim o (suc n) u f t = go (pick lim o u f t) refl (λ p. own-prefix lim o n (also u (p .spec)) (p .fresh) t)
@@ -36,7 +37,8 @@ own-prefix lim o (suc n) u f t = go (pick lim o u f t) refl (λ p. own-prefix li
     next : Picked → List Spec
     next p = ownFirst lim o n (also u (p .spec)) (p .fresh) t
 
-    go : (a : Option Picked) → pick lim o u f t ≡ a → ((p : Picked) → AllOf prefixOf (t .prefix) (map aside (next p))) → AllOf prefixOf (t .prefix) (map aside (andOn a next))
+    go : (a : Option Picked) → pick lim o u f t ≡ a → ((p : Picked) → AllOf prefixOf (t .prefix) (map aside (next p)))
+        → AllOf prefixOf (t .prefix) (map aside (andOn a next))
     go none e ih = tt
     go (some p) e ih = (pick-prefix lim o u f t p e, ih p)
 
@@ -113,7 +115,8 @@ module _ (lim : ℕ → ℕ) (o : Options) (ts : List Tree) (js : List Job) wher
         go false e = refl
 
     -- each tree follows its own list
-    queues-follow : (us : List Tree) → ((t : Tree) → List·Memᴰ t us → List·Memᴰ t ts) → FollowAll lim o (firstFresh ts js) (start o ts js .used) us (map queueOf us)
+    queues-follow : (us : List Tree) → ((t : Tree) → List·Memᴰ t us → List·Memᴰ t ts)
+        → FollowAll lim o (firstFresh ts js) (start o ts js .used) us (map queueOf us)
     unfolding ownListOf
     queues-follow [] h = tt
     queues-follow (t ∷ us) h =
@@ -166,7 +169,8 @@ module _ (lim : ℕ → ℕ) (o : Options) (ts : List Tree) (js : List Job) wher
         )
 
     -- (d): some tree got one in every pass
-    reached : (plan .passes ≡ 0) ⊎ Most prefixOf (map queueOf (ordered ts)) (map aside (plan .specs)) (plan .passes) → plan .passes ≤ largest (map (λ t. length (gets plan t)) ts)
+    reached : (plan .passes ≡ 0) ⊎ Most prefixOf (map queueOf (ordered ts)) (map aside (plan .specs)) (plan .passes)
+        → plan .passes ≤ largest (map (λ t. length (gets plan t)) ts)
     reached (inl z) = omega arith
     reached (inr (k, l, i, n)) =
         let (t, m, e) = queues-out (ordered ts) i in

@@ -43,7 +43,8 @@ abbrev specsUse : List Spec → ℕ → SourceId → Bool
 specsUse ss k x = any (λ s. eqb (s .prefix) k && among x (specUses s)) ss
 
 -- ids that they do not use share nothing with any of them
-none-share : (ss : List Spec) (k : ℕ) (xs : List SourceId) → unused (specsUse ss k) xs ≡ true → any (λ s. eqb (s .prefix) k && any (λ x. among x (specUses s)) xs) ss ≡ false
+none-share : (ss : List Spec) (k : ℕ) (xs : List SourceId) → unused (specsUse ss k) xs ≡ true
+    → any (λ s. eqb (s .prefix) k && any (λ x. among x (specUses s)) xs) ss ≡ false
 unfolding any
 none-share [] k xs h = refl
 none-share (s ∷ ss) k xs h =
@@ -67,7 +68,8 @@ start-apart o ts js = record { used = λ k. fun-ext (λ x. sym (or-false (among 
 
 module _ (lim : ℕ → ℕ) (o : Options) (js : List Job) where
   -- and after every pick
-  pick-apart : (t : Tree) (p : Picked) (st : State) → pick lim o (st .used (t .prefix)) (st .fresh) t ≡ some p → Apart js st → Apart js (withPick (some p) st)
+  pick-apart : (t : Tree) (p : Picked) (st : State) → pick lim o (st .used (t .prefix)) (st .fresh) t ≡ some p → Apart js st
+      → Apart js (withPick (some p) st)
   unfolding any all
   pick-apart t p st e a = record {
     used = λ k. fun-ext (λ x. grows k x);
@@ -84,7 +86,8 @@ module _ (lim : ℕ → ℕ) (o : Options) (js : List Job) where
           ∙ ap (λ (u : SourceId → Bool). unused u (specUses s)) (sym (a .used (s .prefix)) ∙ ap (st .used) (pick-prefix lim o (st .used (t .prefix)) (st .fresh) t p e))
           ∙ pick-free lim o (st .used (t .prefix)) (st .fresh) t p e
 
-      grows : (k : ℕ) (x : SourceId) → withPick (some p) st .used k x ≡ (among x (usedIds js k) || specsUse (st .specs ++ (s ∷ [])) k x)
+      grows : (k : ℕ) (x : SourceId)
+          → withPick (some p) st .used k x ≡ (among x (usedIds js k) || specsUse (st .specs ++ (s ∷ [])) k x)
       grows k x =
           rw (a .used k, any-append (λ r. eqb (r .prefix) k && among x (specUses r)) (st .specs) (s ∷ []), or-false (eqb (s .prefix) k && among x (specUses s)))
           (or-assoc (among x (usedIds js k)) (specsUse (st .specs) k x) (eqb (s .prefix) k && among x (specUses s)))
@@ -123,7 +126,8 @@ module _ (lim : ℕ → ℕ) (o : Options) (js : List Job) where
         next : Picked → List Spec
         next p = ownFirst lim o n (also u (p .spec)) (p .fresh) t
 
-        go : (a : Option Picked) → pick lim o u f t ≡ a → ((p : Picked) → all (goodFor (also u (p .spec))) (next p) ≡ true) → all (goodFor u) (andOn a next) ≡ true
+        go : (a : Option Picked) → pick lim o u f t ≡ a → ((p : Picked) → all (goodFor (also u (p .spec))) (next p) ≡ true)
+            → all (goodFor u) (andOn a next) ≡ true
         go none e ih = refl
         go (some p) e ih = ap₂ _&&_ (pick-good u f p e) (all-weaker (goodFor (also u (p .spec))) (goodFor u) (good-before u (p .spec)) (next p) (ih p))
 

@@ -55,7 +55,8 @@ module _ {A : Type 0} (same : A → A → Bool) where
   parts-apart {ys = ys} h (List·Memᴰ·tail {x = z} {xs} m) n = parts-apart (rest-distinct z (xs ++ ys) h) m n
 
   -- two lists that have no entry in common
-  distinct-append : (xs ys : List A) → distinct same xs ≡ true → distinct same ys ≡ true → ((x y : A) → List·Memᴰ x xs → List·Memᴰ y ys → same x y ≡ false)
+  distinct-append : (xs ys : List A) → distinct same xs ≡ true → distinct same ys ≡ true
+      → ((x y : A) → List·Memᴰ x xs → List·Memᴰ y ys → same x y ≡ false)
       → distinct same (xs ++ ys) ≡ true
   distinct-append [] ys h k a = k
   distinct-append (x ∷ xs) ys h k a =
@@ -64,14 +65,17 @@ module _ {A : Type 0} (same : A → A → Bool) where
       (distinct-append xs ys (rest-distinct x xs h) k (λ z y m n. a z y (List·Memᴰ·tail m) n))
 
   -- one more entry that no other is the same as
-  pub distinct-last : (xs : List A) (y : A) → distinct same xs ≡ true → any (λ x. same x y) xs ≡ false → distinct same (xs ++ (y ∷ [])) ≡ true
+  pub distinct-last : (xs : List A) (y : A) → distinct same xs ≡ true → any (λ x. same x y) xs ≡ false
+      → distinct same (xs ++ (y ∷ [])) ≡ true
   unfolding distinct any
   distinct-last xs y h n =
       distinct-append xs (y ∷ []) h refl (λ x z m k. subst (λ (w : A). same x w ≡ false) (sym (List·Memᴰ·eq-of-singleton k)) (any-none (λ w. same w y) n m))
 
 module _ {A : Type 0} (clash : A → A → Bool) where
   -- a test that fails wherever the first does
-  pub distinct-weaker : (same : A → A → Bool) (xs : List A) → ((x y : A) → List·Memᴰ x xs → List·Memᴰ y xs → clash x y ≡ false → same x y ≡ false) → distinct clash xs ≡ true → distinct same xs ≡ true
+  pub distinct-weaker : (same : A → A → Bool) (xs : List A)
+      → ((x y : A) → List·Memᴰ x xs → List·Memᴰ y xs → clash x y ≡ false → same x y ≡ false) → distinct clash xs ≡ true
+      → distinct same xs ≡ true
   unfolding distinct
   distinct-weaker same [] a h = refl
   distinct-weaker same (x ∷ xs) a h =
@@ -80,7 +84,8 @@ module _ {A : Type 0} (clash : A → A → Bool) where
       (distinct-weaker same xs (λ y z m n. a y z (List·Memᴰ·tail m) (List·Memᴰ·tail n)) (rest-distinct clash x xs h))
 
   -- two tests that both hold of none
-  pub distinct-either : (clash′ : A → A → Bool) (xs : List A) → distinct clash xs ≡ true → distinct clash′ xs ≡ true → distinct (λ x y. clash x y || clash′ x y) xs ≡ true
+  pub distinct-either : (clash′ : A → A → Bool) (xs : List A) → distinct clash xs ≡ true → distinct clash′ xs ≡ true
+      → distinct (λ x y. clash x y || clash′ x y) xs ≡ true
   unfolding distinct
   distinct-either clash′ [] h k = refl
   distinct-either clash′ (x ∷ xs) h k =
@@ -108,7 +113,9 @@ module _ {A B : Type 0} (f : A → List B) where
   mem-concat [] m = absurd (List·Memᴰ·not-nil m)
   mem-concat {b} (x ∷ xs) m = go (List·Memᴰ·append-cases (f x) m) (mem-concat xs)
     where
-      go : List·Memᴰ b (f x) ⊎ List·Memᴰ b (concatMap f xs) → (List·Memᴰ b (concatMap f xs) → (y : A) × List·Memᴰ y xs × List·Memᴰ b (f y)) → (y : A) × List·Memᴰ y (x ∷ xs) × List·Memᴰ b (f y)
+      go : List·Memᴰ b (f x) ⊎ List·Memᴰ b (concatMap f xs)
+          → (List·Memᴰ b (concatMap f xs) → (y : A) × List·Memᴰ y xs × List·Memᴰ b (f y))
+          → (y : A) × List·Memᴰ y (x ∷ xs) × List·Memᴰ b (f y)
       go (inl n) ih = (x, List·Memᴰ·head refl, n)
       go (inr n) ih = let r = ih n in (r .0, List·Memᴰ·tail (r .1), r .2)
 
@@ -131,13 +138,15 @@ module _ {A B : Type 0} (f : A → List B) where
     one-part self h (List·Memᴰ·tail {x = z} {xs} k) (List·Memᴰ·tail l) m n = one-part self (right-distinct same (f z) (concatMap f xs) h) k l m n
 
     -- each part is distinct
-    pub part-distinct : {x : A} {xs : List A} → distinct same (concatMap f xs) ≡ true → List·Memᴰ x xs → distinct same (f x) ≡ true
+    pub part-distinct : {x : A} {xs : List A} → distinct same (concatMap f xs) ≡ true → List·Memᴰ x xs
+        → distinct same (f x) ≡ true
     unfolding concatMap
     part-distinct h (List·Memᴰ·head {x = y} {xs} e) = rw e (left-distinct same (f y) (concatMap f xs) h)
     part-distinct h (List·Memᴰ·tail {x = y} {xs} m) = part-distinct (right-distinct same (f y) (concatMap f xs) h) m
 
     -- parts that are distinct and apart, put together
-    pub distinct-concat : (xs : List A) → ((x : A) → List·Memᴰ x xs → distinct same (f x) ≡ true) → (clash : A → A → Bool) → distinct clash xs ≡ true
+    pub distinct-concat : (xs : List A) → ((x : A) → List·Memᴰ x xs → distinct same (f x) ≡ true) → (clash : A → A → Bool)
+        → distinct clash xs ≡ true
         → ((x y : A) → List·Memᴰ x xs → List·Memᴰ y xs → clash x y ≡ false → (b c : B) → List·Memᴰ b (f x) → List·Memᴰ c (f y) → same b c ≡ false)
         → distinct same (concatMap f xs) ≡ true
     unfolding concatMap distinct

@@ -19,10 +19,9 @@ use Rattle.rules.specs.Pick.{Spec, lastRun, risen, Picked, idsOf, oldest, pick}
 use Rattle.rules.specs.Plan.{State, withPick, firstFresh, start}
 use Rattle.rules.proofs.Lookups.{and-left, and-right}
 use Rattle.laws.specs.Demand3.{fromRows, RunsBelow, SourcesBelow}
-use Rattle.laws.proofs.Used.{same-id, mem-any}
+use Rattle.laws.proofs.Used.{mem-any, keep-append, same-id}
 use Rattle.laws.proofs.Windows.{Below, below-mem}
 use Rattle.laws.proofs.Picks.{Cases, takes-rows, takes-runs, pick-cases, rows-first, not-rows, a-row, enough-rows}
-use Rattle.laws.proofs.Deal.{keep-append}
 use Rattle.laws.proofs.Distinct.{none-any, distinct-last, mem-concat}
 
 -- ---- the first
@@ -40,7 +39,8 @@ above-below first [] h = tt
 above-below first (i ∷ ids) h = (omega arith, above-below first ids (omega arith))
 
 -- of the first tree and the others
-runs-above : (s : Tree) (ts : List Tree) → oneAbove (idsOf (runsOf (s ∷ ts))) ≡ max (oneAbove (idsOf (s .runs))) (oneAbove (idsOf (runsOf ts)))
+runs-above : (s : Tree) (ts : List Tree)
+    → oneAbove (idsOf (runsOf (s ∷ ts))) ≡ max (oneAbove (idsOf (s .runs))) (oneAbove (idsOf (runsOf ts)))
 unfolding concatMap
 runs-above s ts = ap oneAbove (map-append (λ (r : Run). r .id) (s .runs) (runsOf ts)) ∙ above-append (idsOf (s .runs)) (idsOf (runsOf ts))
 
@@ -68,7 +68,8 @@ not-stopped ts js h m =
     (omega arith, omega arith)
 
 -- so every run of a tree is below it
-pub committed-below : (ts : List Tree) (js : List Job) → firstFresh ts js + length ts ≤ lastRun → (t : Tree) → List·Memᴰ t ts → Below (firstFresh ts js) (idsOf (t .runs))
+pub committed-below : (ts : List Tree) (js : List Job) → firstFresh ts js + length ts ≤ lastRun → (t : Tree)
+    → List·Memᴰ t ts → Below (firstFresh ts js) (idsOf (t .runs))
 committed-below ts js h t m = above-below (firstFresh ts js) (idsOf (t .runs)) (omega (arith, one-of m, not-stopped ts js h m .0))
 
 -- ---- the runs of active jobs
@@ -79,7 +80,8 @@ unfolding keep
 keep-mem p [] m = absurd (List·Memᴰ·not-nil m)
 keep-mem {A} p {x} (y ∷ ys) m = go (p y) refl m (keep-mem p ys)
   where
-    go : (c : Bool) → p y ≡ c → List·Memᴰ x (cond c (y ∷ keep p ys) (keep p ys)) → (List·Memᴰ x (keep p ys) → List·Memᴰ x ys × (p x ≡ true)) → List·Memᴰ x (y ∷ ys) × (p x ≡ true)
+    go : (c : Bool) → p y ≡ c → List·Memᴰ x (cond c (y ∷ keep p ys) (keep p ys))
+        → (List·Memᴰ x (keep p ys) → List·Memᴰ x ys × (p x ≡ true)) → List·Memᴰ x (y ∷ ys) × (p x ≡ true)
     go true e (List·Memᴰ·head q) ih = (List·Memᴰ·head q, ap p q ∙ e)
     go true e (List·Memᴰ·tail m) ih = let r = ih m in (List·Memᴰ·tail (r .0), r .1)
     go false e m ih = let r = ih m in (List·Memᴰ·tail (r .0), r .1)
@@ -93,7 +95,8 @@ mem-keep p {x} (List·Memᴰ·tail {x = y} {xs} m) h =
 
 module _ (ts : List Tree) (js : List Job) (room : firstFresh ts js + length ts ≤ lastRun) where
   -- active destinations are below the first fresh number
-  destination-below : {t : Tree} → List·Memᴰ t ts → (j : Job) → List·Memᴰ j js → active j ≡ true → isDrain j ≡ false → j .destination < firstFresh ts js
+  destination-below : {t : Tree} → List·Memᴰ t ts → (j : Job) → List·Memᴰ j js → active j ≡ true → isDrain j ≡ false
+      → j .destination < firstFresh ts js
   destination-below m j n a d =
       below-mem {ids = destinations js} (above-below (firstFresh ts js) (destinations js) (not-stopped ts js room m .1))
       (Memᴰ·map (λ (x : Job). x .destination) (mem-keep (λ x. active x && not (isDrain x)) n (ap₂ (λ (b c : Bool). b && not c) a d)))
@@ -103,18 +106,21 @@ module _ (ts : List Tree) (js : List Job) (room : firstFresh ts js + length ts �
       → ((s : Source) → List·Memᴰ s (j .sources) → s .mark ≡ 1 → s .run < firstFresh ts js) → {n : ℕ} → List·Memᴰ (sortedRun n) (jobUses j) → n < firstFresh ts js
   job-run m j k a h {n} u = go (List·Memᴰ·append-cases (map idOf (j .sources)) u)
     where
-      source : (s : Source) → List·Memᴰ s (j .sources) → (c : Bool) → eqb (s .mark) 1 ≡ c → cond c (sortedRun (s .run)) (sstView (s .view)) ≡ sortedRun n → n < firstFresh ts js
+      source : (s : Source) → List·Memᴰ s (j .sources) → (c : Bool) → eqb (s .mark) 1 ≡ c
+          → cond c (sortedRun (s .run)) (sstView (s .view)) ≡ sortedRun n → n < firstFresh ts js
       source s i true e q = let same : s .run ≡ n = cc in rw (← same) (h s i (eqb-true (s .mark) 1 e))
       source s i false e q = absurd (let z : _≡_ {A = ℕ} 0 1 = cc in omega arith)
 
-      destination : (c : Bool) → isDrain j ≡ c → List·Memᴰ (sortedRun n) (cond c [] (sortedRun (j .destination) ∷ [])) → n < firstFresh ts js
+      destination : (c : Bool) → isDrain j ≡ c → List·Memᴰ (sortedRun n) (cond c [] (sortedRun (j .destination) ∷ []))
+          → n < firstFresh ts js
       destination true e i = absurd (List·Memᴰ·not-nil i)
       destination false e i =
           let at : sortedRun n ≡ sortedRun (j .destination) = List·Memᴰ·eq-of-singleton i in
           let same : n ≡ j .destination = cc in
           rw same (destination-below m j k a e)
 
-      go : List·Memᴰ (sortedRun n) (map idOf (j .sources)) ⊎ List·Memᴰ (sortedRun n) (cond (isDrain j) [] (sortedRun (j .destination) ∷ [])) → n < firstFresh ts js
+      go : List·Memᴰ (sortedRun n) (map idOf (j .sources)) ⊎ List·Memᴰ (sortedRun n) (cond (isDrain j) [] (sortedRun (j .destination) ∷ []))
+          → n < firstFresh ts js
       go (inl i) = let r = Memᴰ·of-map idOf (j .sources) i in source (r .0) (r .1) (eqb (r .0 .mark) 1) refl (r .2)
       go (inr i) = destination (isDrain j) refl i
 
@@ -147,7 +153,8 @@ rowClash a b = fromRows a && (fromRows b && eqb (a .destination) (b .destination
 -- after n specs of step 1 the fresh number is n above the first, and their destinations are the numbers between, each once
 pub record Rising (first : ℕ) (st : State) : Type 0 where
   pub fresh : st .fresh ≡ min (first + rowSpecs (st .specs)) lastRun
-  pub within : first + rowSpecs (st .specs) ≤ lastRun → (s : Spec) → List·Memᴰ s (st .specs) → fromRows s ≡ true → (first ≤ s .destination) × (s .destination < first + rowSpecs (st .specs))
+  pub within : first + rowSpecs (st .specs) ≤ lastRun → (s : Spec) → List·Memᴰ s (st .specs) → fromRows s ≡ true
+      → (first ≤ s .destination) × (s .destination < first + rowSpecs (st .specs))
   pub once : first + rowSpecs (st .specs) ≤ lastRun → distinct rowClash (st .specs) ≡ true
 
 -- a spec of step 1 counts
@@ -166,7 +173,8 @@ module _ (first : ℕ) (p : Picked) (st : State) (r : Rising first st) where
   now = rowSpecs (st .specs ++ (p .spec ∷ []))
 
   -- a pick of step 1 takes the fresh number
-  rows-rise : fromRows (p .spec) ≡ true → p .spec .destination ≡ st .fresh → p .fresh ≡ risen (st .fresh) → Rising first (withPick (some p) st)
+  rows-rise : fromRows (p .spec) ≡ true → p .spec .destination ≡ st .fresh → p .fresh ≡ risen (st .fresh)
+      → Rising first (withPick (some p) st)
   rows-rise f d n =
       let more = one-more (st .specs) (p .spec) f in
       record {
@@ -175,7 +183,8 @@ module _ (first : ℕ) (p : Picked) (st : State) (r : Rising first st) where
         once = λ h. distinct-last rowClash (st .specs) (p .spec) (r .once (omega arith)) (none-any (λ a. rowClash a (p .spec)) (st .specs) (λ a m. apart h a m (fromRows a) refl));
       }
     where
-      go : first + now ≤ lastRun → (s : Spec) → fromRows s ≡ true → List·Memᴰ s (st .specs) ⊎ List·Memᴰ s (p .spec ∷ []) → (first ≤ s .destination) × (s .destination < first + now)
+      go : first + now ≤ lastRun → (s : Spec) → fromRows s ≡ true → List·Memᴰ s (st .specs) ⊎ List·Memᴰ s (p .spec ∷ [])
+          → (first ≤ s .destination) × (s .destination < first + now)
       go h s k (inl m) =
           let more = one-more (st .specs) (p .spec) f in
           let old = r .within (omega arith) s m k in
@@ -186,7 +195,8 @@ module _ (first : ℕ) (p : Picked) (st : State) (r : Rising first st) where
           let at = r .fresh in
           (omega arith, omega arith)
 
-      apart : first + now ≤ lastRun → (a : Spec) → List·Memᴰ a (st .specs) → (c : Bool) → fromRows a ≡ c → (c && (fromRows (p .spec) && eqb (a .destination) (p .spec .destination))) ≡ false
+      apart : first + now ≤ lastRun → (a : Spec) → List·Memᴰ a (st .specs) → (c : Bool) → fromRows a ≡ c
+          → (c && (fromRows (p .spec) && eqb (a .destination) (p .spec .destination))) ≡ false
       apart h a m false e = refl
       apart h a m true e =
           let more = one-more (st .specs) (p .spec) f in
@@ -204,7 +214,8 @@ module _ (first : ℕ) (p : Picked) (st : State) (r : Rising first st) where
         once = λ h. distinct-last rowClash (st .specs) (p .spec) (r .once (omega arith)) (none-any (λ a. rowClash a (p .spec)) (st .specs) (λ a m. rw f (and-false (fromRows a))));
       }
     where
-      go : first + now ≤ lastRun → (s : Spec) → fromRows s ≡ true → List·Memᴰ s (st .specs) ⊎ List·Memᴰ s (p .spec ∷ []) → (first ≤ s .destination) × (s .destination < first + now)
+      go : first + now ≤ lastRun → (s : Spec) → fromRows s ≡ true → List·Memᴰ s (st .specs) ⊎ List·Memᴰ s (p .spec ∷ [])
+          → (first ≤ s .destination) × (s .destination < first + now)
       go h s k (inl m) =
           let same = no-more (st .specs) (p .spec) f in
           let old = r .within (omega arith) s m k in
@@ -213,7 +224,8 @@ module _ (first : ℕ) (p : Picked) (st : State) (r : Rising first st) where
 
 module _ (lim : ℕ → ℕ) (o : Options) (least : 1 ≤ o .min) (most : o .min ≤ o .max) (ts : List Tree) (js : List Job) where
   -- so they rise with every pick
-  pub pick-rises : (t : Tree) (p : Picked) (st : State) → pick lim o (st .used (t .prefix)) (st .fresh) t ≡ some p → Rising (firstFresh ts js) st → Rising (firstFresh ts js) (withPick (some p) st)
+  pub pick-rises : (t : Tree) (p : Picked) (st : State) → pick lim o (st .used (t .prefix)) (st .fresh) t ≡ some p
+      → Rising (firstFresh ts js) st → Rising (firstFresh ts js) (withPick (some p) st)
   pick-rises t p st e r = go (pick-cases lim o (st .used (t .prefix)) (st .fresh) t p e)
     where
       go : Cases lim o (st .used (t .prefix)) (st .fresh) t p → Rising (firstFresh ts js) (withPick (some p) st)

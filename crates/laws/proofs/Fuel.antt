@@ -36,7 +36,8 @@ module _ (lim : ℕ → ℕ) (o : Options) where
         go (some p) e = absurd (omega (arith, fewer lim o least most t u f e))
 
     -- two bounds that the free rows do not pass give one list
-    own-enough : (n m : ℕ) (u : SourceId → Bool) (f : ℕ) → free u (rowsOf t) ≤ n → free u (rowsOf t) ≤ m → ownFirst lim o n u f t ≡ ownFirst lim o m u f t
+    own-enough : (n m : ℕ) (u : SourceId → Bool) (f : ℕ) → free u (rowsOf t) ≤ n → free u (rowsOf t) ≤ m
+        → ownFirst lim o n u f t ≡ ownFirst lim o m u f t
     unfolding ownFirst
     own-enough zero m u f h k = sym (own-none m u f h)
     own-enough (suc n) zero u f h k = own-none (suc n) u f k
@@ -70,7 +71,8 @@ module _ (lim : ℕ → ℕ) (o : Options) where
   pass-spends [] st = omega arith
   pass-spends (t ∷ ts) st = go (eqb (st .slots) 0) refl (pass-spends ts (ask lim o t st))
     where
-      go : (c : Bool) → eqb (st .slots) 0 ≡ c → Spends (ask lim o t st) (pass lim o ts (ask lim o t st)) → Spends st (cond c st (pass lim o ts (ask lim o t st)))
+      go : (c : Bool) → eqb (st .slots) 0 ≡ c → Spends (ask lim o t st) (pass lim o ts (ask lim o t st))
+          → Spends st (cond c st (pass lim o ts (ask lim o t st)))
       go true e ih = omega arith
       go false e ih =
           let s : Spends st (ask lim o t st) = asked-spends (pick lim o (st .used (t .prefix)) (st .fresh) t) st (eqb-false (st .slots) 0 e) in
@@ -91,7 +93,8 @@ module _ (lim : ℕ → ℕ) (o : Options) where
   after ts st = pass lim o ts st
 
   -- with no slot all passes do nothing
-  passes-none : (ts : List Tree) (n passed : ℕ) (st : State) → st .slots ≤ 0 → passesFrom lim o ts n passed st ≡ record { specs = st .specs; passes = passed }
+  passes-none : (ts : List Tree) (n passed : ℕ) (st : State) → st .slots ≤ 0
+      → passesFrom lim o ts n passed st ≡ record { specs = st .specs; passes = passed }
   unfolding passesFrom
   passes-none ts zero passed st h = refl
   passes-none ts (suc n) passed st h =
@@ -100,7 +103,8 @@ module _ (lim : ℕ → ℕ) (o : Options) where
       ∙ ap (λ (x : State). record { specs = x .specs; passes = passed }) idle
 
   -- two bounds that the slots do not pass give one plan
-  passes-enough : (ts : List Tree) (n m passed : ℕ) (st : State) → st .slots ≤ n → st .slots ≤ m → passesFrom lim o ts n passed st ≡ passesFrom lim o ts m passed st
+  passes-enough : (ts : List Tree) (n m passed : ℕ) (st : State) → st .slots ≤ n → st .slots ≤ m
+      → passesFrom lim o ts n passed st ≡ passesFrom lim o ts m passed st
   passes-enough ts zero m passed st h k = passes-none ts zero passed st h ∙ sym (passes-none ts m passed st h)
   passes-enough ts (suc n) zero passed st h k = passes-none ts (suc n) passed st k ∙ sym (passes-none ts zero passed st k)
   passes-enough ts (suc n) (suc m) passed st h k = go (picked st (after ts st)) refl (passes-enough ts n m (suc passed) (after ts st))
@@ -115,7 +119,8 @@ module _ (lim : ℕ → ℕ) (o : Options) where
           passes-go-on lim o ts n passed st e ∙ ih (omega arith) (omega arith) ∙ sym (passes-go-on lim o ts m passed st e)
 
   -- ---- one tree, asked alone
-  alone-goes : (n passed : ℕ) (t : Tree) (st : State) → n ≤ st .slots → passesFrom lim o (t ∷ []) n passed st .specs ≡ st .specs ++ ownFirst lim o n (st .used (t .prefix)) (st .fresh) t
+  alone-goes : (n passed : ℕ) (t : Tree) (st : State) → n ≤ st .slots
+      → passesFrom lim o (t ∷ []) n passed st .specs ≡ st .specs ++ ownFirst lim o n (st .used (t .prefix)) (st .fresh) t
   unfolding passesFrom ownFirst pass
   alone-goes zero passed t st h = sym (append-nil (st .specs))
   alone-goes (suc n) passed t st h = go (pick lim o u (st .fresh) t) refl (λ p. alone-goes n (suc passed) t (withPick (some p) st) (omega arith))
@@ -169,7 +174,8 @@ module _ (lim : ℕ → ℕ) (o : Options) where
       go (no k) ih = let same : suc n ≡ l = omega arith in ap (greatest p) same
 
   -- a window longer than the sizes is not within the chain
-  too-long : (used : SourceId → Bool) (ids sizes : List ℕ) (k : ℕ) → length sizes < k → eligible lim (o .min) (o .max) used ids sizes k ≡ false
+  too-long : (used : SourceId → Bool) (ids sizes : List ℕ) (k : ℕ) → length sizes < k
+      → eligible lim (o .min) (o .max) used ids sizes k ≡ false
   unfolding eligible lasting
   too-long used ids sizes k h = rw (lt-leb k (chain lim sizes) (omega (arith, chain-le sizes))) (and-false (leb (o .min) k))
 

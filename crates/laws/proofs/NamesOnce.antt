@@ -38,7 +38,8 @@ total-le g h a [] = omega arith
 total-le g h a (t ∷ ts) = omega (arith, a t, total-le g h a ts)
 
 -- and truly so where one of them is
-total-lt : (g h : Tree → ℕ) → ((t : Tree) → g t ≤ h t) → {t : Tree} {ts : List Tree} → List·Memᴰ t ts → g t < h t → total (map g ts) < total (map h ts)
+total-lt : (g h : Tree → ℕ) → ((t : Tree) → g t ≤ h t) → {t : Tree} {ts : List Tree} → List·Memᴰ t ts → g t < h t
+    → total (map g ts) < total (map h ts)
 unfolding total
 total-lt g h a {t} (List·Memᴰ·head {x = c} {xs} e) l = let k : g c < h c = rw (← e) l in omega (arith, total-le g h a xs)
 total-lt g h a (List·Memᴰ·tail {x = c} m) l = omega (arith, a c, total-lt g h a m l)
@@ -58,18 +59,22 @@ rows-grow : (s : Spec) (ss : List Spec) (t : Tree) → rowSpecsOf ss t ≤ rowSp
 unfolding keep
 rows-grow s ss t = go (eqb (s .prefix) (t .prefix)) (fromRows s) refl
   where
-    go : (c d : Bool) → fromRows s ≡ d → rowSpecsOf ss t ≤ rowSpecs (cond c (s ∷ of (λ r. r .prefix) (t .prefix) ss) (of (λ r. r .prefix) (t .prefix) ss))
+    go : (c d : Bool) → fromRows s ≡ d
+        → rowSpecsOf ss t ≤ rowSpecs (cond c (s ∷ of (λ r. r .prefix) (t .prefix) ss) (of (λ r. r .prefix) (t .prefix) ss))
     go false d e = omega arith
     go true false e = rw e (omega arith)
     go true true e = rw e (omega arith)
 
 -- each spec of step 1 is counted with its tree
-rows-by-tree : (ts : List Tree) (ss : List Spec) → ((s : Spec) → List·Memᴰ s ss → (t : Tree) × List·Memᴰ t ts × (s .prefix ≡ t .prefix)) → rowSpecs ss ≤ total (map (rowSpecsOf ss) ts)
+rows-by-tree : (ts : List Tree) (ss : List Spec)
+    → ((s : Spec) → List·Memᴰ s ss → (t : Tree) × List·Memᴰ t ts × (s .prefix ≡ t .prefix))
+    → rowSpecs ss ≤ total (map (rowSpecsOf ss) ts)
 unfolding keep
 rows-by-tree ts [] h = omega arith
 rows-by-tree ts (s ∷ ss) h = go (fromRows s) refl (rows-by-tree ts ss (λ r m. h r (List·Memᴰ·tail m)))
   where
-    go : (d : Bool) → fromRows s ≡ d → rowSpecs ss ≤ total (map (rowSpecsOf ss) ts) → length (cond d (s ∷ keep fromRows ss) (keep fromRows ss)) ≤ total (map (rowSpecsOf (s ∷ ss)) ts)
+    go : (d : Bool) → fromRows s ≡ d → rowSpecs ss ≤ total (map (rowSpecsOf ss) ts)
+        → length (cond d (s ∷ keep fromRows ss) (keep fromRows ss)) ≤ total (map (rowSpecsOf (s ∷ ss)) ts)
     go false e ih = omega (arith, total-le (rowSpecsOf ss) (rowSpecsOf (s ∷ ss)) (rows-grow s ss) ts)
     go true e ih =
         let x = h s (List·Memᴰ·head refl) in
@@ -106,10 +111,12 @@ module _ (lim : ℕ → ℕ) (o : Options) (least : 1 ≤ o .min) (most : o .min
     enough = rw (← end .2) (omega (arith, few once))
 
     -- a destination of step 2 is a source, and below the first fresh number
-    run-destination : (s : Spec) → List·Memᴰ s specs → fromRows s ≡ false → List·Memᴰ (sortedRun (s .destination)) (s .sources) × (s .destination < firstFresh ts js)
+    run-destination : (s : Spec) → List·Memᴰ s specs → fromRows s ≡ false
+        → List·Memᴰ (sortedRun (s .destination)) (s .sources) × (s .destination < firstFresh ts js)
     run-destination s m f = let x = shapes lim o least most ts js .made s m in go (x .0) (x .1) (x .2 .step)
       where
-        go : (t : Tree) → List·Memᴰ t ts → OfRows o t s ⊎ OfRuns o t s → List·Memᴰ (sortedRun (s .destination)) (s .sources) × (s .destination < firstFresh ts js)
+        go : (t : Tree) → List·Memᴰ t ts → OfRows o t s ⊎ OfRuns o t s
+            → List·Memᴰ (sortedRun (s .destination)) (s .sources) × (s .destination < firstFresh ts js)
         go t k (inl r) =
             let rows = rows-first (oldest o t) (a-row lim o least most t (le-leb (o .min) (length (t .l0)) (r .enough)) .1) in
             absurd (true≢false (sym rows ∙ sym (ap firstIsRow (r .sources)) ∙ f))
@@ -125,7 +132,8 @@ module _ (lim : ℕ → ℕ) (o : Options) (least : 1 ≤ o .min) (most : o .min
     row-destination s m f = end .1 .within enough s (subst (List·Memᴰ s) (end .2) m) f .0
 
     -- so no two specs have one
-    apart : (s r : Spec) → List·Memᴰ s specs → List·Memᴰ r specs → (sharing s r || rowClash s r) ≡ false → eqb (s .destination) (r .destination) ≡ false
+    apart : (s r : Spec) → List·Memᴰ s specs → List·Memᴰ r specs → (sharing s r || rowClash s r) ≡ false
+        → eqb (s .destination) (r .destination) ≡ false
     apart s r m n h = go (fromRows s) refl (fromRows r) refl
       where
         go : (c : Bool) → fromRows s ≡ c → (d : Bool) → fromRows r ≡ d → eqb (s .destination) (r .destination) ≡ false

@@ -37,7 +37,8 @@ views-old first [] = tt
 views-old first (v ∷ vs) = (tt, views-old first vs)
 
 -- the fresh number is set aside
-aside-rows : (o : Options) (t : Tree) → firstIsRow (oldestIds o t) ≡ true → (f g : ℕ) → aside (rowPick o f t .spec) ≡ aside (rowPick o g t .spec)
+aside-rows : (o : Options) (t : Tree) → firstIsRow (oldestIds o t) ≡ true → (f g : ℕ)
+    → aside (rowPick o f t .spec) ≡ aside (rowPick o g t .spec)
 aside-rows o t h f g = rw h
 
 -- ---- so long as a tree's oldest rows are free, it uses no fresh number
@@ -75,7 +76,8 @@ module _ (lim : ℕ → ℕ) (o : Options) (least : 1 ≤ o .min) (most : o .min
       && (unused u (oldestIds o t) && not (heldBack lim (o .max) (total (l0SizesOf (oldest o t))) (sizesOf (t .runs))))
 
   -- the fresh number that is offered does not matter
-  pick-is : {u : SourceId → Bool} {f : ℕ} → Unmet first o t u → first ≤ f → pick lim o u f t ≡ cond (rowTest u) (some (rowPick o f t)) (runPick o f t (runs u))
+  pick-is : {u : SourceId → Bool} {f : ℕ} → Unmet first o t u → first ≤ f
+      → pick lim o u f t ≡ cond (rowTest u) (some (rowPick o f t)) (runPick o f t (runs u))
   unfolding pick takesRows passes all
   pick-is {u} {f} m h =
       rw (all-append (λ x. not (u x)) (oldestIds o t) (sortedRun f ∷ []), no-fresh-test (unused u (oldestIds o t)) (u (sortedRun f)) (m .at f h))
@@ -83,7 +85,8 @@ module _ (lim : ℕ → ℕ) (o : Options) (least : 1 ≤ o .min) (most : o .min
   -- ---- after a pick
 
   -- a row that was taken is used
-  unmet-rows : (u : SourceId → Bool) (f : ℕ) → leb (o .min) (length (t .l0)) ≡ true → Unmet first o t (also u (rowPick o f t .spec))
+  unmet-rows : (u : SourceId → Bool) (f : ℕ) → leb (o .min) (length (t .l0)) ≡ true
+      → Unmet first o t (also u (rowPick o f t .spec))
   unmet-rows u f enough = record { at = λ g h n. absurd (true≢false (sym taken ∙ not-true _ (all-mem (λ x. not (now x)) n (r .1)))) }
     where
       r : (x : SourceId) × List·Memᴰ x (oldestIds o t) × List·Memᴰ x (map viewId (t .l0))
@@ -116,7 +119,8 @@ module _ (lim : ℕ → ℕ) (o : Options) (least : 1 ≤ o .min) (most : o .min
   unfolding any
   same-rows {u} {v} {f} {g} s hf hg = record { at = λ x old. ap₂ _||_ (s .at x old) (rows-only f x old hf ∙ sym (rows-only g x old hg)) }
     where
-      rows-only : (d : ℕ) (x : SourceId) → Old first x → first ≤ d → among x (oldestIds o t ++ (sortedRun d ∷ [])) ≡ (among x (oldestIds o t) || false)
+      rows-only : (d : ℕ) (x : SourceId) → Old first x → first ≤ d
+          → among x (oldestIds o t ++ (sortedRun d ∷ [])) ≡ (among x (oldestIds o t) || false)
       rows-only d x old h = rw (among-append x (oldestIds o t) (sortedRun d ∷ []), old-not-fresh {f = d} x old h)
 
   -- ---- two picks at tests that say the same of old ids
@@ -156,12 +160,14 @@ module _ (lim : ℕ → ℕ) (o : Options) (least : 1 ≤ o .min) (most : o .min
       )
 
   -- ---- the list is followed
-  list-follows : (n : ℕ) {u v : SourceId → Bool} {g : ℕ} → Same first u v → Unmet first o t u → Unmet first o t v → first ≤ g → free v (rowsOf t) ≤ n
+  list-follows : (n : ℕ) {u v : SourceId → Bool} {g : ℕ} → Same first u v → Unmet first o t u → Unmet first o t v
+      → first ≤ g → free v (rowsOf t) ≤ n
       → Follows lim o first t u (map aside (ownFirst lim o n v g t))
   unfolding ownFirst
   list-follows zero {u} {v} {g} s mu mv hg k = λ f hf. go f (pick lim o v g t) refl (tandem s mu mv hf hg)
     where
-      go : (f : ℕ) (a : Option Picked) → pick lim o v g t ≡ a → Tandem first o t u v (pick lim o u f t) a → pick lim o u f t ≡ none
+      go : (f : ℕ) (a : Option Picked) → pick lim o v g t ≡ a → Tandem first o t u v (pick lim o u f t) a
+          → pick lim o u f t ≡ none
       go f none e w = w
       go f (some q) e w = absurd (omega (arith, fewer lim o least most t v g e))
   list-follows (suc n) {u} {v} {g} s mu mv hg k =
@@ -177,7 +183,8 @@ module _ (lim : ℕ → ℕ) (o : Options) (least : 1 ≤ o .min) (most : o .min
       go (some q) e w ih = λ f hf. let x = w f hf in (x .0, x .1, x .2 .spec, x .2 .fresh, ih (x .0) q (x .2) (omega (arith, fewer lim o least most t v g e)))
 
   -- where no fresh number is used at the start, a tree follows its own list
-  pub own-follows : (u : SourceId → Bool) → ((f : ℕ) → first ≤ f → u (sortedRun f) ≡ false) → Follows lim o first t u (map aside (ownList lim o u first t))
+  pub own-follows : (u : SourceId → Bool) → ((f : ℕ) → first ≤ f → u (sortedRun f) ≡ false)
+      → Follows lim o first t u (map aside (ownList lim o u first t))
   unfolding ownList
   own-follows u h =
       let m : Unmet first o t u = record { at = λ f k n. h f k } in

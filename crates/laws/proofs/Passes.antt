@@ -39,13 +39,15 @@ module _ (lim : ℕ → ℕ) (o : Options) where
   pass-stops t ts st e = rw (eq-eqb (st .slots) 0 e)
 
   -- a tree without a pick
-  pub pass-none : (t : Tree) (ts : List Tree) (st : State) → st .slots ≢ 0 → pick lim o (st .used (t .prefix)) (st .fresh) t ≡ none
+  pub pass-none : (t : Tree) (ts : List Tree) (st : State) → st .slots ≢ 0
+      → pick lim o (st .used (t .prefix)) (st .fresh) t ≡ none
       → pass lim o (t ∷ ts) st ≡ pass lim o ts st
   unfolding pass ask
   pass-none t ts st h e = rw (ne-eqb (st .slots) 0 h, e)
 
   -- a tree with one
-  pub pass-some : (t : Tree) (ts : List Tree) (st : State) (p : Picked) → st .slots ≢ 0 → pick lim o (st .used (t .prefix)) (st .fresh) t ≡ some p
+  pub pass-some : (t : Tree) (ts : List Tree) (st : State) (p : Picked) → st .slots ≢ 0
+      → pick lim o (st .used (t .prefix)) (st .fresh) t ≡ some p
       → pass lim o (t ∷ ts) st ≡ pass lim o ts (withPick (some p) st)
   unfolding pass ask
   pass-some t ts st p h e = rw (ne-eqb (st .slots) 0 h, e)
@@ -74,7 +76,8 @@ module _ (lim : ℕ → ℕ) (o : Options) where
     FollowAll used (t ∷ ts) (queue k l ∷ qs) = Follows lim o first t (used (t .prefix)) l × FollowAll used ts qs
 
     -- what is used of other trees does not matter
-    follow-same : (u v : ℕ → SourceId → Bool) (ts : List Tree) (qs : List (Queue Spec)) → ((c : Tree) → List·Memᴰ c ts → v (c .prefix) ≡ u (c .prefix)) → FollowAll u ts qs → FollowAll v ts qs
+    follow-same : (u v : ℕ → SourceId → Bool) (ts : List Tree) (qs : List (Queue Spec))
+        → ((c : Tree) → List·Memᴰ c ts → v (c .prefix) ≡ u (c .prefix)) → FollowAll u ts qs → FollowAll v ts qs
     follow-same u v [] [] e h = tt
     follow-same u v (t ∷ ts) (queue k l ∷ qs) e h =
         (subst (λ (w : SourceId → Bool). Follows lim o first t w l) (sym (e t (List·Memᴰ·head refl))) (h .0), follow-same u v ts qs (λ c m. e c (List·Memᴰ·tail m)) (h .1))
@@ -88,7 +91,8 @@ module _ (lim : ℕ → ℕ) (o : Options) where
       others : (k : ℕ) → ((c : Tree) → List·Memᴰ c ts → c .prefix ≢ k) → after .used k ≡ st .used k
 
     -- a pass over trees that follow lists hands out the heads
-    pass-deals : (ts : List Tree) (qs : List (Queue Spec)) (s : ℕ) (st : State) → st .slots ≡ s → first ≤ st .fresh → Apart ts → FollowAll (st .used) ts qs
+    pass-deals : (ts : List Tree) (qs : List (Queue Spec)) (s : ℕ) (st : State) → st .slots ≡ s → first ≤ st .fresh
+        → Apart ts → FollowAll (st .used) ts qs
         → Passed st (pass lim o ts st) ts qs s
     unfolding pass
     pass-deals [] [] s st e hf d h = record { specs = sym (append-nil (map aside (st .specs))); left = tt; slots = omega arith; fresh = hf; others = λ k n. refl }
@@ -139,11 +143,13 @@ module _ (lim : ℕ → ℕ) (o : Options) where
       pub passes : r .passes ≡ passed + rounds
 
     -- as many specs as before, and the heads
-    counts : {st after : State} {ts : List Tree} {qs : List (Queue Spec)} {s : ℕ} → Passed st after ts qs s → length (after .specs) ≡ length (st .specs) + length (heads qs s)
+    counts : {st after : State} {ts : List Tree} {qs : List (Queue Spec)} {s : ℕ} → Passed st after ts qs s
+        → length (after .specs) ≡ length (st .specs) + length (heads qs s)
     counts r = simp (length-append, length-map) at (ap length (r .specs))
 
     -- the passes of a call are a deal
-    pub call-deals : (n passed : ℕ) (ts : List Tree) (qs : List (Queue Spec)) (st : State) → st .slots ≤ n → first ≤ st .fresh → Apart ts → FollowAll (st .used) ts qs
+    pub call-deals : (n passed : ℕ) (ts : List Tree) (qs : List (Queue Spec)) (st : State) → st .slots ≤ n
+        → first ≤ st .fresh → Apart ts → FollowAll (st .used) ts qs
         → Dealt (passesFrom lim o ts n passed st) passed st qs
     unfolding passesFrom
     call-deals zero passed ts qs st k hf d h =
@@ -194,7 +200,8 @@ module _ (lim : ℕ → ℕ) (o : Options) (ts : List Tree) (Holds : State → T
       go (some p) e = keeps t p st m e h
 
   -- one pass
-  pass-keeps : (us : List Tree) (st : State) → ((t : Tree) → List·Memᴰ t us → List·Memᴰ t ts) → Holds st → Holds (pass lim o us st)
+  pass-keeps : (us : List Tree) (st : State) → ((t : Tree) → List·Memᴰ t us → List·Memᴰ t ts) → Holds st
+      → Holds (pass lim o us st)
   unfolding pass
   pass-keeps [] st m h = h
   pass-keeps (t ∷ us) st m h =
@@ -202,7 +209,8 @@ module _ (lim : ℕ → ℕ) (o : Options) (ts : List Tree) (Holds : State → T
       [ true ↦ h | false ↦ pass-keeps us (ask lim o t st) (λ c n. m c (List·Memᴰ·tail n)) (ask-keeps t st (m t (List·Memᴰ·head refl)) h) ]
 
   -- the plan's specs are those of a state where it holds
-  pub call-keeps : (n passed : ℕ) (st : State) → Holds st → (end : State) × Holds end × (passesFrom lim o ts n passed st .specs ≡ end .specs)
+  pub call-keeps : (n passed : ℕ) (st : State) → Holds st
+      → (end : State) × Holds end × (passesFrom lim o ts n passed st .specs ≡ end .specs)
   unfolding passesFrom
   call-keeps zero passed st h = (st, h, refl)
   call-keeps (suc n) passed st h =

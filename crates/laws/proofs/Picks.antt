@@ -36,7 +36,8 @@ oldestIds o t = map viewId (oldest o t)
 -- what was tested, and what was picked
 pub data Cases (lim : ℕ → ℕ) (o : Options) (u : SourceId → Bool) (f : ℕ) (t : Tree) (p : Picked) : Type 0 where
   takes-rows : takesRows lim o u f t ≡ true → p ≡ rowPick o f t → Cases lim o u f t p
-  takes-runs : (i : ℕ) (w : List ℕ) → window lim (o .min) (o .max) u (idsOf (t .runs)) (sizesOf (t .runs)) ≡ i ∷ w → some p ≡ runPick o f t (i ∷ w) → Cases lim o u f t p
+  takes-runs : (i : ℕ) (w : List ℕ) → window lim (o .min) (o .max) u (idsOf (t .runs)) (sizesOf (t .runs)) ≡ i ∷ w
+      → some p ≡ runPick o f t (i ∷ w) → Cases lim o u f t p
 
 module _ (lim : ℕ → ℕ) (o : Options) (u : SourceId → Bool) (f : ℕ) (t : Tree) where
   -- the window of step 2
@@ -48,7 +49,8 @@ module _ (lim : ℕ → ℕ) (o : Options) (u : SourceId → Bool) (f : ℕ) (t 
   unfolding pick
   pick-cases p e = go (takesRows lim o u f t) refl runs refl e
     where
-      go : (c : Bool) → takesRows lim o u f t ≡ c → (w : List ℕ) → runs ≡ w → cond c (some (rowPick o f t)) (runPick o f t w) ≡ some p → Cases lim o u f t p
+      go : (c : Bool) → takesRows lim o u f t ≡ c → (w : List ℕ) → runs ≡ w
+          → cond c (some (rowPick o f t)) (runPick o f t w) ≡ some p → Cases lim o u f t p
       go true h w k e = takes-rows h (sym (Option·some-injective _ _ e))
       go false h [] k e = absurd (Option·none-ne-some _ e)
       go false h (i ∷ w) k e = takes-runs i w k (sym e)
@@ -64,7 +66,8 @@ module _ (lim : ℕ → ℕ) (o : Options) (u : SourceId → Bool) (f : ℕ) (t 
   -- ---- all that a pick uses was free
 
   -- what holds of ids holds where the front is dropped
-  all-drop : (p : SourceId → Bool) (k : ℕ) (ids : List ℕ) → all p (map sortedRun ids) ≡ true → all p (map sortedRun (drop k ids)) ≡ true
+  all-drop : (p : SourceId → Bool) (k : ℕ) (ids : List ℕ) → all p (map sortedRun ids) ≡ true
+      → all p (map sortedRun (drop k ids)) ≡ true
   unfolding all
   all-drop p zero ids h = h
   all-drop p (suc k) [] h = refl
@@ -101,14 +104,16 @@ not-rows s [] e = rw e
 not-rows s (i ∷ ids) e = rw e
 
 -- where not all rows are dropped, one is left
-dropped-in : (j : ℕ) (l : List L0Row) → j < length l → (x : SourceId) × List·Memᴰ x (map viewId (drop j l)) × List·Memᴰ x (map viewId l)
+dropped-in : (j : ℕ) (l : List L0Row) → j < length l
+    → (x : SourceId) × List·Memᴰ x (map viewId (drop j l)) × List·Memᴰ x (map viewId l)
 dropped-in j [] h = absurd (omega arith)
 dropped-in zero (v ∷ l) h = (viewId v, List·Memᴰ·head refl, List·Memᴰ·head refl)
 dropped-in (suc j) (v ∷ l) h = let r = dropped-in j l (omega arith) in (r .0, r .1, List·Memᴰ·tail (r .2))
 
 module _ (lim : ℕ → ℕ) (o : Options) (least : 1 ≤ o .min) (most : o .min ≤ o .max) (t : Tree) where
   -- where the L0 rows are enough, step 1 has a source
-  pub a-row : leb (o .min) (length (t .l0)) ≡ true → (x : SourceId) × List·Memᴰ x (oldestIds o t) × List·Memᴰ x (map viewId (t .l0))
+  pub a-row : leb (o .min) (length (t .l0)) ≡ true
+      → (x : SourceId) × List·Memᴰ x (oldestIds o t) × List·Memᴰ x (map viewId (t .l0))
   a-row h = dropped-in (length (t .l0) - o .max) (t .l0) (omega (arith, leb-true (o .min) (length (t .l0)) h))
 
   module _ (u : SourceId → Bool) (f : ℕ) where
@@ -118,7 +123,8 @@ module _ (lim : ℕ → ℕ) (o : Options) (least : 1 ≤ o .min) (most : o .min
     enough-rows h = and-left _ (passes lim (o .max) u (oldestIds o t) f (total (l0SizesOf (oldest o t))) (sizesOf (t .runs))) h
 
     -- either step uses one
-    pick-takes : (p : Picked) → pick lim o u f t ≡ some p → (x : SourceId) × List·Memᴰ x (rowsOf t) × List·Memᴰ x (specUses (p .spec))
+    pick-takes : (p : Picked) → pick lim o u f t ≡ some p
+        → (x : SourceId) × List·Memᴰ x (rowsOf t) × List·Memᴰ x (specUses (p .spec))
     pick-takes p e = go (pick-cases lim o u f t p e)
       where
         go : Cases lim o u f t p → (x : SourceId) × List·Memᴰ x (rowsOf t) × List·Memᴰ x (specUses (p .spec))

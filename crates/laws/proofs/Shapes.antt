@@ -35,12 +35,14 @@ record Part (w ids : List ℕ) : Type 0 where
   place : ids ≡ before ++ (w ++ after)
 
 -- a window is
-window-part : (lim : ℕ → ℕ) (least most : ℕ) (u : SourceId → Bool) (ids sizes : List ℕ) → Part (window lim least most u ids sizes) ids
+window-part : (lim : ℕ → ℕ) (least most : ℕ) (u : SourceId → Bool) (ids sizes : List ℕ)
+    → Part (window lim least most u ids sizes) ids
 unfolding window
 window-part lim least most u [] sizes = record { before = []; after = []; place = refl }
 window-part lim least most u (i ∷ ids) sizes = go (greatest (eligible lim least most u (i ∷ ids) sizes) (length (i ∷ ids))) (window-part lim least most u ids (drop 1 sizes))
   where
-    go : (k : ℕ) → Part (window lim least most u ids (drop 1 sizes)) ids → Part (orLater k (i ∷ ids) (window lim least most u ids (drop 1 sizes))) (i ∷ ids)
+    go : (k : ℕ) → Part (window lim least most u ids (drop 1 sizes)) ids
+        → Part (orLater k (i ∷ ids) (window lim least most u ids (drop 1 sizes))) (i ∷ ids)
     go zero p = record { before = i ∷ p .before; after = p .after; place = ap {B = List ℕ} (λ r. i ∷ r) (p .place) }
     go (suc k) p = record { before = []; after = drop (suc k) (i ∷ ids); place = sym (take-append-drop (suc k) (i ∷ ids)) }
 
@@ -74,13 +76,15 @@ module _ (k : ℕ) (x : SourceId) where
   HaveX ss = (s : Spec) → List·Memᴰ s ss → s .prefix ≡ k → fromRows s ≡ true → List·Memᴰ x (specUses s)
 
   -- with one that comes before none is apart
-  none-left : (s : Spec) → s .prefix ≡ k → List·Memᴰ x (specUses s) → (ss : List Spec) → any (sharing s) ss ≡ false → HaveX ss → length (rowsOfK ss) ≤ 0
+  none-left : (s : Spec) → s .prefix ≡ k → List·Memᴰ x (specUses s) → (ss : List Spec) → any (sharing s) ss ≡ false
+      → HaveX ss → length (rowsOfK ss) ≤ 0
   unfolding keep any
   none-left s p m [] h a = omega arith
   none-left s p m (r ∷ ss) h a =
       go (eqb (r .prefix) k) refl (fromRows r) refl (none-left s p m ss (or-right (sharing s r) (any (sharing s) ss) h) (λ c n. a c (List·Memᴰ·tail n)))
     where
-      go : (c : Bool) → eqb (r .prefix) k ≡ c → (d : Bool) → fromRows r ≡ d → length (rowsOfK ss) ≤ 0 → length (keep fromRows (cond c (r ∷ of (λ s. s .prefix) k ss) (of (λ s. s .prefix) k ss))) ≤ 0
+      go : (c : Bool) → eqb (r .prefix) k ≡ c → (d : Bool) → fromRows r ≡ d → length (rowsOfK ss) ≤ 0
+          → length (keep fromRows (cond c (r ∷ of (λ s. s .prefix) k ss) (of (λ s. s .prefix) k ss))) ≤ 0
       go false e d f ih = ih
       go true e false f ih = rw f ih
       go true e true f ih =
@@ -95,7 +99,8 @@ module _ (k : ℕ) (x : SourceId) where
   one-left [] h a = omega arith
   one-left (s ∷ ss) h a = go (eqb (s .prefix) k) refl (fromRows s) refl (one-left ss (and-right (not (any (sharing s) ss)) (distinct sharing ss) h) (λ c n. a c (List·Memᴰ·tail n)))
     where
-      go : (c : Bool) → eqb (s .prefix) k ≡ c → (d : Bool) → fromRows s ≡ d → length (rowsOfK ss) ≤ 1 → length (keep fromRows (cond c (s ∷ of (λ s. s .prefix) k ss) (of (λ s. s .prefix) k ss))) ≤ 1
+      go : (c : Bool) → eqb (s .prefix) k ≡ c → (d : Bool) → fromRows s ≡ d → length (rowsOfK ss) ≤ 1
+          → length (keep fromRows (cond c (s ∷ of (λ s. s .prefix) k ss) (of (λ s. s .prefix) k ss))) ≤ 1
       go false e d f ih = ih
       go true e false f ih = rw f ih
       go true e true f ih =
@@ -138,7 +143,8 @@ module _ (lim : ℕ → ℕ) (o : Options) (least : 1 ≤ o .min) (most : o .min
       next : Picked → List Spec
       next p = ownFirst lim o n (also u (p .spec)) (p .fresh) t
 
-      go : (a : Option Picked) → pick lim o u f t ≡ a → List·Memᴰ s (andOn a next) → ((p : Picked) → List·Memᴰ s (next p) → Made o t s) → Made o t s
+      go : (a : Option Picked) → pick lim o u f t ≡ a → List·Memᴰ s (andOn a next)
+          → ((p : Picked) → List·Memᴰ s (next p) → Made o t s) → Made o t s
       go none e m ih = absurd (List·Memᴰ·not-nil m)
       go (some p) e (List·Memᴰ·head q) ih = subst (Made o t) (sym q) (pick-made t u f p e)
       go (some p) e (List·Memᴰ·tail m) ih = ih p m
@@ -149,7 +155,8 @@ module _ (lim : ℕ → ℕ) (o : Options) (least : 1 ≤ o .min) (most : o .min
   AllMade ts st = (s : Spec) → List·Memᴰ s (st .specs) → (t : Tree) × List·Memᴰ t ts × Made o t s
 
   -- with one pick more
-  pick-all-made : (ts : List Tree) (t : Tree) (p : Picked) (st : State) → List·Memᴰ t ts → pick lim o (st .used (t .prefix)) (st .fresh) t ≡ some p → AllMade ts st → AllMade ts (withPick (some p) st)
+  pick-all-made : (ts : List Tree) (t : Tree) (p : Picked) (st : State) → List·Memᴰ t ts
+      → pick lim o (st .used (t .prefix)) (st .fresh) t ≡ some p → AllMade ts st → AllMade ts (withPick (some p) st)
   pick-all-made ts t p st m e a s n = go (List·Memᴰ·append-cases (st .specs) n)
     where
       go : List·Memᴰ s (st .specs) ⊎ List·Memᴰ s (p .spec ∷ []) → (t : Tree) × List·Memᴰ t ts × Made o t s
@@ -167,7 +174,8 @@ module _ (lim : ℕ → ℕ) (o : Options) (least : 1 ≤ o .min) (most : o .min
         (x .0, ordered-only ts (x .1), x .2)
 
     -- a spec of tree t from rows has the oldest of them
-    rows-oldest : Apart ts → (t : Tree) → List·Memᴰ t ts → (s : Spec) → List·Memᴰ s (planned lim o ts js .specs) → s .prefix ≡ t .prefix → fromRows s ≡ true → OfRows o t s
+    rows-oldest : Apart ts → (t : Tree) → List·Memᴰ t ts → (s : Spec) → List·Memᴰ s (planned lim o ts js .specs)
+        → s .prefix ≡ t .prefix → fromRows s ≡ true → OfRows o t s
     rows-oldest d t m s n p f =
         let x = plan-made s n in
         go (x .2 .step) (apart-same d m (x .1) (sym (x .2 .prefix) ∙ p))

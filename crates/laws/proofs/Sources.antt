@@ -38,7 +38,8 @@ ids-distinct ids h = distinct-map sortedRun sameId eqb (λ a b. refl) ids ∙ h
 
 module _ {o : Options} {t : Tree} {s : Spec} where
   -- the sources of a spec are distinct where the tree's rows are
-  sources-distinct : Made o t s → distinct eqb (idsOf (t .runs)) ≡ true → distinct sameUlid (map (λ v. v .view) (t .l0)) ≡ true → distinct sameId (s .sources) ≡ true
+  sources-distinct : Made o t s → distinct eqb (idsOf (t .runs)) ≡ true
+      → distinct sameUlid (map (λ v. v .view) (t .l0)) ≡ true → distinct sameId (s .sources) ≡ true
   sources-distinct made runs views = go (made .step)
     where
       go : OfRows o t s ⊎ OfRuns o t s → distinct sameId (s .sources) ≡ true
@@ -52,7 +53,8 @@ module _ {o : Options} {t : Tree} {s : Spec} where
           (ids-distinct (r .ids) (left-distinct eqb (r .ids) (r .after) (right-distinct eqb (r .before) (r .ids ++ r .after) (rw (r .place) at runs))))
 
   -- and each of them is a row or a run of the tree
-  source-of : {x : SourceId} → Made o t s → List·Memᴰ x (s .sources) → List·Memᴰ x (map viewId (t .l0)) ⊎ List·Memᴰ x (map sortedRun (idsOf (t .runs)))
+  source-of : {x : SourceId} → Made o t s → List·Memᴰ x (s .sources)
+      → List·Memᴰ x (map viewId (t .l0)) ⊎ List·Memᴰ x (map sortedRun (idsOf (t .runs)))
   source-of {x} made m = go (made .step)
     where
       go : OfRows o t s ⊎ OfRuns o t s → List·Memᴰ x (map viewId (t .l0)) ⊎ List·Memᴰ x (map sortedRun (idsOf (t .runs)))
@@ -67,14 +69,16 @@ module _ {o : Options} {t : Tree} {s : Spec} where
           (Memᴰ·append-right (map sortedRun (r .before)) (Memᴰ·append-left (map sortedRun (r .after)) (rw (r .sources) at m))))
 
 -- ---- two specs of one tree
-unshared : (s r : Spec) → sharing s r ≡ false → s .prefix ≡ r .prefix → {x y : SourceId} → List·Memᴰ x (s .sources) → List·Memᴰ y (r .sources) → sameId x y ≡ false
+unshared : (s r : Spec) → sharing s r ≡ false → s .prefix ≡ r .prefix → {x y : SourceId} → List·Memᴰ x (s .sources)
+    → List·Memᴰ y (r .sources) → sameId x y ≡ false
 unshared s r h e {x} {y} m n =
     any-none (λ z. sameId z y)
     (any-none (λ z. among z (specUses s)) (rw (eq-eqb (s .prefix) (r .prefix) e) at h) (Memᴰ·append-left (sortedRun (r .destination) ∷ []) n))
     (Memᴰ·append-left (sortedRun (s .destination) ∷ []) m)
 
 -- ---- two trees
-map-concat : {A B C : Type 0} (g : B → C) (f : A → List B) (xs : List A) → map g (concatMap f xs) ≡ concatMap (λ x. map g (f x)) xs
+map-concat : {A B C : Type 0} (g : B → C) (f : A → List B) (xs : List A)
+    → map g (concatMap f xs) ≡ concatMap (λ x. map g (f x)) xs
 unfolding concatMap
 map-concat g f [] = refl
 map-concat {C = C} g f (x ∷ xs) = map-append g (f x) (concatMap f xs) ∙ ap (λ (r : List C). map g (f x) ++ r) (map-concat g f xs)
@@ -111,7 +115,8 @@ module _ (lim : ℕ → ℕ) (o : Options) (least : 1 ≤ o .min) (most : o .min
   specs = planned lim o ts js .specs
 
   -- two specs of a plan that share nothing have no source in common
-  pub plan-apart : RowsOnce ts → (s r : Spec) → List·Memᴰ s specs → List·Memᴰ r specs → sharing s r ≡ false → (x y : SourceId) → List·Memᴰ x (s .sources) → List·Memᴰ y (r .sources) → sameId x y ≡ false
+  pub plan-apart : RowsOnce ts → (s r : Spec) → List·Memᴰ s specs → List·Memᴰ r specs → sharing s r ≡ false
+      → (x y : SourceId) → List·Memᴰ x (s .sources) → List·Memᴰ y (r .sources) → sameId x y ≡ false
   plan-apart once s r a b h x y m n = go (eqb (s .prefix) (r .prefix)) refl (sameId x y) refl
     where
       p : (t : Tree) × List·Memᴰ t ts × Made o t s
@@ -130,7 +135,9 @@ module _ (lim : ℕ → ℕ) (o : Options) (least : 1 ≤ o .min) (most : o .min
           absurd (eqb-false (s .prefix) (r .prefix) e (p .2 .prefix ∙ same ∙ sym (q .2 .prefix)))
 
   -- no source twice in an own list
-  pub own-sources : (t : Tree) → distinct eqb (idsOf (t .runs)) ≡ true → distinct sameUlid (map (λ v. v .view) (t .l0)) ≡ true → distinct sameId (specSources (ownListOf lim o ts js t)) ≡ true
+  pub own-sources : (t : Tree) → distinct eqb (idsOf (t .runs)) ≡ true
+      → distinct sameUlid (map (λ v. v .view) (t .l0)) ≡ true
+      → distinct sameId (specSources (ownListOf lim o ts js t)) ≡ true
   own-sources t runs views =
       let made = shapes lim o least most ts js .ownMade t in
       distinct-concat (λ s. s .sources) sameId (ownListOf lim o ts js t) (λ s m. sources-distinct (made s m) runs views) sharing (disjoint lim o ts js .ownOnce t)

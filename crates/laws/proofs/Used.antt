@@ -6,7 +6,7 @@ use mathlib.Core.Bool.{Bool, true, false, cond, _&&_, _||_, not, and-assoc, or-a
 use native.Mathlib.Omega.{arith}
 use lib.ListN.{length}
 use borrow.Author.Tests.{eqb-true, eq-eqb, ne-eqb}
-use Rattle.rules.specs.Lists.{any, all}
+use Rattle.rules.specs.Lists.{any, all, keep}
 use Rattle.rules.specs.Tables.{SourceId, sortedRun, sstView, sameId, among}
 use Rattle.rules.proofs.Lookups.{and-left, and-right, same-ulid, ulid-same}
 
@@ -43,9 +43,19 @@ module _ {A : Type 0} (p : A → Bool) where
   mem-any [] h = absurd (false≢true h)
   mem-any (x ∷ xs) h = go (p x) refl h (mem-any xs)
     where
-      go : (c : Bool) → p x ≡ c → (c || any p xs) ≡ true → (any p xs ≡ true → (y : A) × List·Memᴰ y xs × (p y ≡ true)) → (y : A) × List·Memᴰ y (x ∷ xs) × (p y ≡ true)
+      go : (c : Bool) → p x ≡ c → (c || any p xs) ≡ true → (any p xs ≡ true → (y : A) × List·Memᴰ y xs × (p y ≡ true))
+          → (y : A) × List·Memᴰ y (x ∷ xs) × (p y ≡ true)
       go true e h ih = (x, List·Memᴰ·head refl, e)
       go false e h ih = let r = ih h in (r .0, List·Memᴰ·tail (r .1), r .2)
+
+  -- the kept entries of two lists
+  pub keep-append : (xs ys : List A) → keep p (xs ++ ys) ≡ keep p xs ++ keep p ys
+  unfolding keep
+  keep-append [] ys = refl
+  keep-append (x ∷ xs) ys =
+      rw (keep-append xs ys)
+      (elim (p x) as (λ c. cond c (x ∷ (keep p xs ++ keep p ys)) (keep p xs ++ keep p ys) ≡ cond c (x ∷ keep p xs) (keep p xs) ++ keep p ys)
+      [ true ↦ refl | false ↦ refl ])
 
 -- ---- ids in lists
 
@@ -107,7 +117,8 @@ abbrev pub unused : (SourceId → Bool) → List SourceId → Bool
 unused u xs = all (λ x. not (u x)) xs
 
 -- then the same lists are unused
-pub unused-same : {first : ℕ} {u v : SourceId → Bool} (xs : List SourceId) → Same first u v → AllOld first xs → unused u xs ≡ unused v xs
+pub unused-same : {first : ℕ} {u v : SourceId → Bool} (xs : List SourceId) → Same first u v → AllOld first xs
+    → unused u xs ≡ unused v xs
 unfolding all
 unused-same [] s o = refl
 unused-same (x ∷ xs) s o = ap₂ (λ (a b : Bool). not a && b) (s .at x (o .0)) (unused-same xs s (o .1))
@@ -149,7 +160,8 @@ module _ (u w : SourceId → Bool) where
   free-le [] = omega arith
   free-le (x ∷ xs) = go (u x) (w x) (free-le xs)
     where
-      go : (c d : Bool) → free (plus u w) xs ≤ free u xs → cond (c || d) (free (plus u w) xs) (suc (free (plus u w) xs)) ≤ cond c (free u xs) (suc (free u xs))
+      go : (c d : Bool) → free (plus u w) xs ≤ free u xs
+          → cond (c || d) (free (plus u w) xs) (suc (free (plus u w) xs)) ≤ cond c (free u xs) (suc (free u xs))
       go true d h = h
       go false true h = omega arith
       go false false h = omega arith
@@ -160,7 +172,8 @@ module _ (u w : SourceId → Bool) where
   free-lt {x} (List·Memᴰ·head {x = y} {xs = xs} e) h g = rw (← e, h, g) (omega (arith, free-le xs))
   free-lt {x} (List·Memᴰ·tail {x = y} {xs = xs} m) h g = go (u y) (w y) (free-lt m h g)
     where
-      go : (c d : Bool) → free (plus u w) xs < free u xs → cond (c || d) (free (plus u w) xs) (suc (free (plus u w) xs)) < cond c (free u xs) (suc (free u xs))
+      go : (c d : Bool) → free (plus u w) xs < free u xs
+          → cond (c || d) (free (plus u w) xs) (suc (free (plus u w) xs)) < cond c (free u xs) (suc (free u xs))
       go true d h = h
       go false true h = omega arith
       go false false h = omega arith

@@ -71,7 +71,8 @@ unfolding greatest
 greatest-has p zero k e = absurd (let z : _≡_ {A = ℕ} 0 1 = cc in omega arith)
 greatest-has p (suc n) k e = go (p (suc n)) refl e (greatest-has p n k)
   where
-    go : (c : Bool) → p (suc n) ≡ c → cond c (suc n) (greatest p n) ≡ suc k → (greatest p n ≡ suc k → p (suc k) ≡ true) → p (suc k) ≡ true
+    go : (c : Bool) → p (suc n) ≡ c → cond c (suc n) (greatest p n) ≡ suc k → (greatest p n ≡ suc k → p (suc k) ≡ true)
+        → p (suc k) ≡ true
     go true h e ih = rw e at h
     go false h e ih = ih e
 
@@ -96,12 +97,14 @@ module _ (lim : ℕ → ℕ) (least most : ℕ) where
     beginnings-same i ids sizes (suc k) b = ap₂ _&&_ (beginnings-same i ids sizes k b) (beginning-same i ids sizes k b)
 
     -- the same lengths are eligible
-    eligible-same : (i : ℕ) (ids sizes : List ℕ) → Below first (i ∷ ids) → eligible lim least most u (i ∷ ids) sizes ≡ eligible lim least most v (i ∷ ids) sizes
+    eligible-same : (i : ℕ) (ids sizes : List ℕ) → Below first (i ∷ ids)
+        → eligible lim least most u (i ∷ ids) sizes ≡ eligible lim least most v (i ∷ ids) sizes
     unfolding eligible lasting
     eligible-same i ids sizes b = fun-ext (λ k. ap (λ (c : Bool). leb least k && (leb k (chain lim sizes) && c)) (beginnings-same i ids sizes k b))
 
     -- so the same window is picked
-    pub window-same : (ids sizes : List ℕ) → Below first ids → window lim least most u ids sizes ≡ window lim least most v ids sizes
+    pub window-same : (ids sizes : List ℕ) → Below first ids
+        → window lim least most u ids sizes ≡ window lim least most v ids sizes
     unfolding window
     window-same [] sizes b = refl
     window-same (i ∷ ids) sizes b =
@@ -110,7 +113,8 @@ module _ (lim : ℕ → ℕ) (least most : ℕ) where
   -- ---- a window is made of free runs of the tree
   module _ (u : SourceId → Bool) where
     -- what is eligible is unused
-    eligible-free : (ids sizes : List ℕ) (k : ℕ) → eligible lim least most u ids sizes (suc k) ≡ true → unused u (windowUses (take (suc k) ids)) ≡ true
+    eligible-free : (ids sizes : List ℕ) (k : ℕ) → eligible lim least most u ids sizes (suc k) ≡ true
+        → unused u (windowUses (take (suc k) ids)) ≡ true
     unfolding eligible lasting upTo beginningPasses passes
     eligible-free ids sizes k e =
         and-left (unused u (windowUses (take (suc k) ids))) (not (heldBack lim most (total (take (suc k) sizes)) (drop (suc k) sizes)))

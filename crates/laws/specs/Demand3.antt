@@ -63,11 +63,11 @@ pub record Demand3 (lim : ℕ → ℕ) (o : Options) (ts : List Tree) (js : List
   pub proposes :
       length (planned lim o ts js .specs) ≡ min (freeSlots o js) (total (map (λ t. length (ownListOf lim o ts js t)) ts))
   -- (b) the specs of each tree are the first entries of its own list, fresh destination numbers aside
-  pub entries : (t : Tree) → List·Memᴰ t ts →
-      map aside (gets (planned lim o ts js) t)
+  pub entries : (t : Tree) → List·Memᴰ t ts
+      → map aside (gets (planned lim o ts js) t)
       ≡ take (length (gets (planned lim o ts js) t)) (map aside (ownListOf lim o ts js t))
   -- (c) a tree with an own list of length L gets at least min(L, F / T rounded down), whatever the other trees hold
-  pub share : (t : Tree) → List·Memᴰ t ts →
-      min (length (ownListOf lim o ts js t)) (freeSlots o js / length ts) ≤ length (gets (planned lim o ts js) t)
+  pub share : (t : Tree) → List·Memᴰ t ts
+      → min (length (ownListOf lim o ts js t)) (freeSlots o js / length ts) ≤ length (gets (planned lim o ts js) t)
   -- (d) the pass count is the largest number of specs that any tree got
   pub passes : planned lim o ts js .passes ≡ largest (map (λ t. length (gets (planned lim o ts js) t)) ts)

@@ -20,7 +20,8 @@ pub record Laws : Type 0 where
   -- demand 3, for every limit
   pub demand3 : (lim : ℕ → ℕ) (o : Options) (ts : List Tree) (js : List Job) → Given o ts js → Demand3 lim o ts js
   -- of its last premise only the sources need a look
-  pub sourcesSuffice : (ts : List Tree) (js : List Job) → firstFresh ts js + length ts ≤ lastRun → SourcesBelow ts js → RunsBelow ts js
+  pub sourcesSuffice : (ts : List Tree) (js : List Job) → firstFresh ts js + length ts ≤ lastRun → SourcesBelow ts js
+      → RunsBelow ts js
   -- demand 3 of the public call
   pub demand3Call : (o : Options) (t : LentTrees) (j : LentJobs) (p : LentPlan) → Accepted o t j p → Demand3Call o t j p
   -- what an accepted call proposes
@@ -32,4 +33,5 @@ pub record Laws : Type 0 where
   -- what specs are made of
   pub shapes : (lim : ℕ → ℕ) (o : Options) → 1 ≤ o .min → o .min ≤ o .max → (ts : List Tree) (js : List Job) → Shapes lim o ts js
   -- no row is a source twice, and no run a destination
-  pub namesOnce : (lim : ℕ → ℕ) (o : Options) → 1 ≤ o .min → o .min ≤ o .max → (ts : List Tree) (js : List Job) → NamesOnce lim o ts js
+  pub namesOnce : (lim : ℕ → ℕ) (o : Options) → 1 ≤ o .min → o .min ≤ o .max → (ts : List Tree) (js : List Job)
+      → NamesOnce lim o ts js

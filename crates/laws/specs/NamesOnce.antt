@@ -22,9 +22,10 @@ pub record RowsOnce (ts : List Tree) : Type 0 where
 
 pub record NamesOnce (lim : ℕ → ℕ) (o : Options) (ts : List Tree) (js : List Job) : Type 0 where
   -- no row is a source twice in a tree's own list
-  pub own : (t : Tree) → distinct eqb (idsOf (t .runs)) ≡ true → distinct sameUlid (map (λ v. v .view) (t .l0)) ≡ true →
-      distinct sameId (specSources (ownListOf lim o ts js t)) ≡ true
+  pub own : (t : Tree) → distinct eqb (idsOf (t .runs)) ≡ true → distinct sameUlid (map (λ v. v .view) (t .l0)) ≡ true
+      → distinct sameId (specSources (ownListOf lim o ts js t)) ≡ true
   -- nor in a plan
   pub plan : RowsOnce ts → distinct sameId (specSources (planned lim o ts js .specs)) ≡ true
   -- in a plan whose fresh numbers do not stop no two specs have one destination
-  pub destinations : RowsOnce ts → firstFresh ts js + length ts ≤ lastRun → distinct eqb (map (λ s. s .destination) (planned lim o ts js .specs)) ≡ true
+  pub destinations : RowsOnce ts → firstFresh ts js + length ts ≤ lastRun
+      → distinct eqb (map (λ s. s .destination) (planned lim o ts js .specs)) ≡ true

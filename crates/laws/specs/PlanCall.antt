@@ -46,11 +46,11 @@ pub record Demand3Call (o : Options) (t : LentTrees) (j : LentJobs) (p : LentPla
   -- the lent plan holds just these specs
   pub plan : planCall o t j p .plan ≡ layPlan p (planOf o t j .specs)
   -- (b) the specs of each tree are the first entries of its own list, fresh destination numbers aside
-  pub entries : (x : Tree) → List·Memᴰ x (treesOf t) →
-      map aside (gets (planOf o t j) x) ≡ take (length (gets (planOf o t j) x)) (map aside (ownOf o t j x))
+  pub entries : (x : Tree) → List·Memᴰ x (treesOf t)
+      → map aside (gets (planOf o t j) x) ≡ take (length (gets (planOf o t j) x)) (map aside (ownOf o t j x))
   -- (c) a tree with an own list of length L gets at least min(L, F / T rounded down), whatever the other trees hold
-  pub share : (x : Tree) → List·Memᴰ x (treesOf t) →
-      min (length (ownOf o t j x)) (freeSlots o (jobsOf j) / t .count) ≤ length (gets (planOf o t j) x)
+  pub share : (x : Tree) → List·Memᴰ x (treesOf t)
+      → min (length (ownOf o t j x)) (freeSlots o (jobsOf j) / t .count) ≤ length (gets (planOf o t j) x)
 
 -- what an accepted call proposes
 pub record Proposed (o : Options) (t : LentTrees) (j : LentJobs) : Type 0 where
@@ -61,4 +61,5 @@ pub record Proposed (o : Options) (t : LentTrees) (j : LentJobs) : Type 0 where
   -- no row or run is a source twice
   pub sources : distinct sameId (specSources (planOf o t j .specs)) ≡ true
   -- where fresh numbers do not stop, no two specs have one destination
-  pub destinations : firstFresh (treesOf t) (jobsOf j) + t .count ≤ lastRun → distinct eqb (map (λ s. s .destination) (planOf o t j .specs)) ≡ true
+  pub destinations : firstFresh (treesOf t) (jobsOf j) + t .count ≤ lastRun
+      → distinct eqb (map (λ s. s .destination) (planOf o t j .specs)) ≡ true

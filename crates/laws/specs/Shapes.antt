@@ -42,4 +42,5 @@ pub record Shapes (lim : ℕ → ℕ) (o : Options) (ts : List Tree) (js : List 
   -- each entry of a tree's own list is for that tree
   pub ownMade : (t : Tree) (s : Spec) → List·Memᴰ s (ownListOf lim o ts js t) → Made o t s
   -- a tree takes step 1 at most once in a call
-  pub rowsOnce : distinct eqb (map (λ t. t .prefix) ts) ≡ true → (t : Tree) → List·Memᴰ t ts → length (keep fromRows (gets (planned lim o ts js) t)) ≤ 1
+  pub rowsOnce : distinct eqb (map (λ t. t .prefix) ts) ≡ true → (t : Tree) → List·Memᴰ t ts
+      → length (keep fromRows (gets (planned lim o ts js) t)) ≤ 1
