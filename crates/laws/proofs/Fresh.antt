@@ -3,7 +3,7 @@
 use Prim.Native.Nat.{ℕ, _+_, _≤_, _<_, min, max}
 use mathlib.Core.Path.{_≡_, refl, sym, ap, ap₂, _∙_, subst}
 use mathlib.Core.Logic.{_⊎_, inl, inr}
-use mathlib.Core.List.{List, [], _∷_, _++_, map, map-append, List·Memᴰ, List·Memᴰ·head, List·Memᴰ·tail, List·Memᴰ·not-nil, List·Memᴰ·append-cases, List·Memᴰ·eq-of-singleton, Memᴰ·map, Memᴰ·of-map}
+use mathlib.Core.List.{List, [], _∷_, _++_, map, map-append, append-nil, List·Memᴰ, List·Memᴰ·head, List·Memᴰ·tail, List·Memᴰ·not-nil, List·Memᴰ·append-cases, List·Memᴰ·eq-of-singleton, Memᴰ·map, Memᴰ·of-map}
 use mathlib.Core.Bool.{Bool, true, false, cond, _&&_, not, and-false, true≢false}
 use mathlib.Core.Option.{some, Option·some-injective}
 use native.Mathlib.Omega.{arith}
@@ -13,10 +13,11 @@ use borrow.Author.Tests.{eqb-true, ne-eqb}
 use Rattle.rules.specs.declared.Options.{Options}
 use Rattle.rules.specs.Lists.{keep, concatMap, distinct, oneAbove, lastOf}
 use Rattle.rules.specs.Tables.{SourceId, sortedRun, sstView, Run, Tree, Source, Job, sameId, idOf, active, isDrain}
-use Rattle.rules.specs.Lent.{runsOf}
+use Rattle.rules.specs.Lent.{rowsFrom, runsOf}
 use Rattle.rules.specs.Windows.{jobUses, usedIds}
 use Rattle.rules.specs.Pick.{Spec, lastRun, risen, Picked, idsOf, oldest, pick}
 use Rattle.rules.specs.Plan.{State, withPick, firstFresh, start}
+use Rattle.rules.proofs.Rows.{rowsFrom-append}
 use Rattle.rules.proofs.Lookups.{and-left, and-right}
 use Rattle.laws.specs.Demand3.{fromRows, RunsBelow, SourcesBelow}
 use Rattle.laws.proofs.Used.{mem-any, keep-append, same-id}
@@ -26,7 +27,7 @@ use Rattle.laws.proofs.Distinct.{none-any, distinct-last, mem-concat}
 
 -- ---- the first
 
--- of two lists
+-- one above two lists
 above-append : (xs ys : List ℕ) → oneAbove (xs ++ ys) ≡ max (oneAbove xs) (oneAbove ys)
 unfolding oneAbove
 above-append [] ys = omega arith
@@ -38,18 +39,18 @@ unfolding oneAbove
 above-below first [] h = tt
 above-below first (i ∷ ids) h = (omega arith, above-below first ids (omega arith))
 
--- of the first tree and the others
+-- one above the runs of a tree and those of the others
 runs-above : (s : Tree) (ts : List Tree)
     → oneAbove (idsOf (runsOf (s ∷ ts))) ≡ max (oneAbove (idsOf (s .runs))) (oneAbove (idsOf (runsOf ts)))
 unfolding concatMap
 runs-above s ts = ap oneAbove (map-append (λ (r : Run). r .id) (s .runs) (runsOf ts)) ∙ above-append (idsOf (s .runs)) (idsOf (runsOf ts))
 
--- of one of the trees
+-- and no less than one above those of any tree
 one-of : {t : Tree} {ts : List Tree} → List·Memᴰ t ts → oneAbove (idsOf (t .runs)) ≤ oneAbove (idsOf (runsOf ts))
 one-of {t} (List·Memᴰ·head {x = s} {xs = ts} e) = rw e (omega (arith, runs-above s ts))
 one-of (List·Memᴰ·tail {x = s} {xs = ts} m) = omega (arith, runs-above s ts, one-of m)
 
--- so there is a tree
+-- where one is a member there is one
 some-tree : {t : Tree} {ts : List Tree} → List·Memᴰ t ts → 1 ≤ length ts
 some-tree (List·Memᴰ·head e) = omega arith
 some-tree (List·Memᴰ·tail m) = omega arith
@@ -144,6 +145,10 @@ module _ (ts : List Tree) (js : List Job) (room : firstFresh ts js + length ts �
 abbrev pub rowSpecs : List Spec → ℕ
 rowSpecs ss = length (keep fromRows ss)
 
+-- where they go
+abbrev pub destinationsOf : List Spec → List ℕ
+destinationsOf ss = map (λ s. s .destination) (keep fromRows ss)
+
 -- two of them with one destination
 abbrev pub rowClash : Spec → Spec → Bool
 rowClash a b = fromRows a && (fromRows b && eqb (a .destination) (b .destination))
@@ -155,17 +160,21 @@ pub record Rising (first : ℕ) (st : State) : Type 0 where
   pub fresh : st .fresh ≡ min (first + rowSpecs (st .specs)) lastRun
   pub within : first + rowSpecs (st .specs) ≤ lastRun → (s : Spec) → List·Memᴰ s (st .specs) → fromRows s ≡ true
       → (first ≤ s .destination) × (s .destination < first + rowSpecs (st .specs))
+  pub taken : first + rowSpecs (st .specs) ≤ lastRun → destinationsOf (st .specs) ≡ rowsFrom (λ k. first + k) 0 (rowSpecs (st .specs))
   pub once : first + rowSpecs (st .specs) ≤ lastRun → distinct rowClash (st .specs) ≡ true
 
 -- a spec of step 1 counts
-one-more : (ss : List Spec) (s : Spec) → fromRows s ≡ true → rowSpecs (ss ++ (s ∷ [])) ≡ rowSpecs ss + 1
+kept-more : (ss : List Spec) (s : Spec) → fromRows s ≡ true → keep fromRows (ss ++ (s ∷ [])) ≡ keep fromRows ss ++ (s ∷ [])
 unfolding keep
-one-more ss s h = ap length (keep-append fromRows ss (s ∷ [])) ∙ rw h (length-append (keep fromRows ss) (s ∷ []))
+kept-more ss s h = keep-append fromRows ss (s ∷ []) ∙ rw h
+
+one-more : (ss : List Spec) (s : Spec) → fromRows s ≡ true → rowSpecs (ss ++ (s ∷ [])) ≡ rowSpecs ss + 1
+one-more ss s h = ap length (kept-more ss s h) ∙ length-append (keep fromRows ss) (s ∷ [])
 
 -- one of step 2 does not
-no-more : (ss : List Spec) (s : Spec) → fromRows s ≡ false → rowSpecs (ss ++ (s ∷ [])) ≡ rowSpecs ss
+kept-same : (ss : List Spec) (s : Spec) → fromRows s ≡ false → keep fromRows (ss ++ (s ∷ [])) ≡ keep fromRows ss
 unfolding keep
-no-more ss s h = ap length (keep-append fromRows ss (s ∷ [])) ∙ rw h (length-append (keep fromRows ss) [] ∙ omega arith)
+kept-same ss s h = keep-append fromRows ss (s ∷ []) ∙ rw h (append-nil (keep fromRows ss))
 
 module _ (first : ℕ) (p : Picked) (st : State) (r : Rising first st) where
   -- how many there are after this pick
@@ -175,14 +184,26 @@ module _ (first : ℕ) (p : Picked) (st : State) (r : Rising first st) where
   -- a pick of step 1 takes the fresh number
   rows-rise : fromRows (p .spec) ≡ true → p .spec .destination ≡ st .fresh → p .fresh ≡ risen (st .fresh)
       → Rising first (withPick (some p) st)
+  unfolding rowsFrom
   rows-rise f d n =
       let more = one-more (st .specs) (p .spec) f in
       record {
         fresh = omega (arith, r .fresh);
         within = λ h s m k. go h s k (List·Memᴰ·append-cases (st .specs) m);
+        taken = λ h. takes h;
         once = λ h. distinct-last rowClash (st .specs) (p .spec) (r .once (omega arith)) (none-any (λ a. rowClash a (p .spec)) (st .specs) (λ a m. apart h a m (fromRows a) refl));
       }
     where
+      takes : first + now ≤ lastRun → destinationsOf (st .specs ++ (p .spec ∷ [])) ≡ rowsFrom (λ k. first + k) 0 now
+      takes h =
+          let more = one-more (st .specs) (p .spec) f in
+          let at : p .spec .destination ≡ first + (0 + rowSpecs (st .specs)) = omega (arith, r .fresh) in
+          ap (map (λ (s : Spec). s .destination)) (kept-more (st .specs) (p .spec) f)
+          ∙ map-append (λ (s : Spec). s .destination) (keep fromRows (st .specs)) (p .spec ∷ [])
+          ∙ ap₂ (λ (a : List ℕ) (b : ℕ). a ++ (b ∷ [])) (r .taken (omega arith)) at
+          ∙ sym (rowsFrom-append (λ k. first + k) 0 (rowSpecs (st .specs)) 1)
+          ∙ ap (rowsFrom (λ k. first + k) 0) (sym more)
+
       go : first + now ≤ lastRun → (s : Spec) → fromRows s ≡ true → List·Memᴰ s (st .specs) ⊎ List·Memᴰ s (p .spec ∷ [])
           → (first ≤ s .destination) × (s .destination < first + now)
       go h s k (inl m) =
@@ -207,17 +228,19 @@ module _ (first : ℕ) (p : Picked) (st : State) (r : Rising first st) where
   -- one of step 2 leaves it
   runs-stay : fromRows (p .spec) ≡ false → p .fresh ≡ st .fresh → Rising first (withPick (some p) st)
   runs-stay f n =
-      let same = no-more (st .specs) (p .spec) f in
+      let same = ap length (kept-same (st .specs) (p .spec) f) in
       record {
         fresh = omega (arith, r .fresh);
         within = λ h s m k. go h s k (List·Memᴰ·append-cases (st .specs) m);
+        taken = λ h.
+            ap (map (λ (s : Spec). s .destination)) (kept-same (st .specs) (p .spec) f) ∙ r .taken (omega arith) ∙ ap (rowsFrom (λ k. first + k) 0) (sym same);
         once = λ h. distinct-last rowClash (st .specs) (p .spec) (r .once (omega arith)) (none-any (λ a. rowClash a (p .spec)) (st .specs) (λ a m. rw f (and-false (fromRows a))));
       }
     where
       go : first + now ≤ lastRun → (s : Spec) → fromRows s ≡ true → List·Memᴰ s (st .specs) ⊎ List·Memᴰ s (p .spec ∷ [])
           → (first ≤ s .destination) × (s .destination < first + now)
       go h s k (inl m) =
-          let same = no-more (st .specs) (p .spec) f in
+          let same = ap length (kept-same (st .specs) (p .spec) f) in
           let old = r .within (omega arith) s m k in
           (omega arith, omega arith)
       go h s k (inr m) = absurd (true≢false (sym k ∙ ap fromRows (List·Memᴰ·eq-of-singleton m) ∙ f))
@@ -240,5 +263,5 @@ module _ (lim : ℕ → ℕ) (o : Options) (least : 1 ≤ o .min) (most : o .min
 
   -- at the start there are none
   pub start-rises : firstFresh ts js ≤ lastRun → Rising (firstFresh ts js) (start o ts js)
-  unfolding keep distinct
-  start-rises h = record { fresh = omega arith; within = λ k s m. absurd (List·Memᴰ·not-nil m); once = λ k. refl }
+  unfolding keep distinct rowsFrom
+  start-rises h = record { fresh = omega arith; within = λ k s m. absurd (List·Memᴰ·not-nil m); taken = λ k. refl; once = λ k. refl }

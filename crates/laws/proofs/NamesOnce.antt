@@ -12,6 +12,7 @@ use borrow.Author.Tests.{ne-eqb, eq-eqb, le-leb}
 use Rattle.rules.specs.declared.Options.{Options}
 use Rattle.rules.specs.Lists.{keep, distinct, total}
 use Rattle.rules.specs.Tables.{sortedRun, Tree, Job}
+use Rattle.rules.specs.Lent.{rowsFrom}
 use Rattle.rules.specs.Pick.{Spec, lastRun, oldest, idsOf}
 use Rattle.rules.specs.Plan.{State, firstFresh, freeSlots, ordered, start, planned}
 use Rattle.rules.proofs.Lookups.{or-left, or-right}
@@ -22,7 +23,7 @@ use Rattle.laws.specs.NamesOnce.{RowsOnce, NamesOnce}
 use Rattle.laws.proofs.Deal.{of}
 use Rattle.laws.proofs.Windows.{below-mem, last-mem}
 use Rattle.laws.proofs.Picks.{a-row, rows-first}
-use Rattle.laws.proofs.Fresh.{committed-below, rowSpecs, rowClash, Rising, pick-rises, start-rises}
+use Rattle.laws.proofs.Fresh.{committed-below, rowSpecs, destinationsOf, rowClash, Rising, pick-rises, start-rises}
 use Rattle.laws.proofs.Passes.{call-keeps}
 use Rattle.laws.proofs.Distinct.{distinct-weaker, distinct-either, distinct-map}
 use Rattle.laws.proofs.Disjoint.{disjoint}
@@ -152,5 +153,9 @@ module _ (lim : ℕ → ℕ) (o : Options) (least : 1 ≤ o .min) (most : o .min
         ∙ distinct-weaker (λ a b. sharing a b || rowClash a b) same specs apart
         (distinct-either sharing rowClash specs (disjoint lim o ts js .once) (rw (end .2) (end .1 .once enough)))
 
+    -- and those of step 1 are the fresh numbers in order
+    fresh-in-order : destinationsOf specs ≡ rowsFrom (λ k. firstFresh ts js + k) 0 (rowSpecs specs)
+    fresh-in-order = rw (end .2) (end .1 .taken enough)
+
   pub names-once : NamesOnce lim o ts js
-  names-once = record { own = own-sources lim o least most ts js; plan = plan-sources lim o least most ts js; destinations = destinations-once }
+  names-once = record { own = own-sources lim o least most ts js; plan = plan-sources lim o least most ts js; destinations = destinations-once; fresh = fresh-in-order }

@@ -54,7 +54,7 @@ record Alike (first : ℕ) (o : Options) (t : Tree) (u v : SourceId → Bool) (p
   unmet : Unmet first o t (also u (p .spec))
   unmet′ : Unmet first o t (also v (q .spec))
 
--- two trees asked: both give nothing, or both give picks that are alike
+-- a tree asked at two tests: both times it gives nothing, or picks that are alike
 abbrev Tandem : ℕ → Options → Tree → (SourceId → Bool) → (SourceId → Bool) → Option Picked → Option Picked → Type 0
 Tandem first o t u v a none = a ≡ none
 Tandem first o t u v a (some q) = (p : Picked) × (a ≡ some p) × Alike first o t u v p q
@@ -107,7 +107,7 @@ module _ (lim : ℕ → ℕ) (o : Options) (least : 1 ≤ o .min) (most : o .min
   abbrev runSpec : ℕ → List ℕ → Spec
   runSpec i w = record { prefix = t .prefix; sources = map sortedRun (lastOf (o .max) (i ∷ w)); destination = last (i ∷ w) }
 
-  -- uses no fresh number
+  -- a run window is of old ids, with its destination
   old-window : (i : ℕ) (w : List ℕ) → Below first (i ∷ w) → AllOld first (specUses (runSpec i w))
   old-window i w b =
       old-append first (map sortedRun (lastOf (o .max) (i ∷ w))) (sortedRun (last (i ∷ w)))

@@ -84,6 +84,7 @@ module _ (o : Options) (t : LentTrees) (j : LentJobs) (p : LentPlan) where
         disjoint = disjoint lim o (treesOf t) (jobsOf j);
         sources = names .plan (good .0);
         destinations = λ room. names .destinations (good .0) (rw (length-treesOf t) room);
+        fresh = λ room. names .fresh (good .0) (rw (length-treesOf t) room);
       }
 
   module _ (a : Accepted o t j p) where

@@ -7,12 +7,13 @@ use mathlib.Core.Bool.{true}
 use lib.Dec.{eqb}
 use lib.ListN.{length}
 use Rattle.rules.specs.declared.Options.{Options}
-use Rattle.rules.specs.Lists.{distinct}
+use Rattle.rules.specs.Lists.{keep, distinct}
 use Rattle.rules.specs.Tables.{Tree, Job, sameUlid, sameId}
-use Rattle.rules.specs.Lent.{l0Of, runsOf}
+use Rattle.rules.specs.Lent.{rowsFrom, l0Of, runsOf}
 use Rattle.rules.specs.Pick.{idsOf, lastRun}
 use Rattle.rules.specs.Plan.{firstFresh, planned, ownListOf}
 use Rattle.rules.specs.Planning.{specSources}
+use Rattle.laws.specs.Demand3.{fromRows}
 
 -- "a run id or L0 view id twice anywhere" is refused, and so is "a prefix twice"
 pub record RowsOnce (ts : List Tree) : Type 0 where
@@ -29,3 +30,7 @@ pub record NamesOnce (lim : ℕ → ℕ) (o : Options) (ts : List Tree) (js : Li
   -- in a plan whose fresh numbers do not stop no two specs have one destination
   pub destinations : RowsOnce ts → firstFresh ts js + length ts ≤ lastRun
       → distinct eqb (map (λ s. s .destination) (planned lim o ts js .specs)) ≡ true
+  -- and those of step 1 are the fresh numbers from the first on, in the order of the plan
+  pub fresh : RowsOnce ts → firstFresh ts js + length ts ≤ lastRun
+      → map (λ s. s .destination) (keep fromRows (planned lim o ts js .specs))
+      ≡ rowsFrom (λ k. firstFresh ts js + k) 0 (length (keep fromRows (planned lim o ts js .specs)))

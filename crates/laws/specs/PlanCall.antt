@@ -7,15 +7,15 @@ use lib.Dec.{eqb}
 use lib.ListN.{length, take}
 use Rattle.rules.specs.declared.Options.{Options}
 use Rattle.rules.specs.declared.PlanAnswer.the-variants.{Planned}
-use Rattle.rules.specs.Lists.{distinct, total}
+use Rattle.rules.specs.Lists.{keep, distinct, total}
 use Rattle.rules.specs.Tables.{Tree, sameId}
-use Rattle.rules.specs.Lent.{LentTrees, LentJobs, treesOf, jobsOf}
+use Rattle.rules.specs.Lent.{LentTrees, LentJobs, rowsFrom, treesOf, jobsOf}
 use Rattle.rules.specs.Limit.{limitOf}
 use Rattle.rules.specs.Pick.{Spec, lastRun}
 use Rattle.rules.specs.Plan.{Plan, firstFresh, freeSlots, planned, ownListOf}
 use Rattle.rules.specs.Planning.{LentPlan, planRefusal, specSources, layPlan}
 use Rattle.rules.specs.Calls.{planCall}
-use Rattle.laws.specs.Demand3.{gets, aside, largest, RunsBelow}
+use Rattle.laws.specs.Demand3.{gets, fromRows, aside, largest, RunsBelow}
 use Rattle.laws.specs.Disjoint.{Disjoint}
 use Rattle.laws.specs.Shapes.{Shapes}
 
@@ -63,3 +63,7 @@ pub record Proposed (o : Options) (t : LentTrees) (j : LentJobs) : Type 0 where
   -- where fresh numbers do not stop, no two specs have one destination
   pub destinations : firstFresh (treesOf t) (jobsOf j) + t .count ≤ lastRun
       → distinct eqb (map (λ s. s .destination) (planOf o t j .specs)) ≡ true
+  -- and those of step 1 are the fresh numbers from the first on, in the order of the plan
+  pub fresh : firstFresh (treesOf t) (jobsOf j) + t .count ≤ lastRun
+      → map (λ s. s .destination) (keep fromRows (planOf o t j .specs))
+      ≡ rowsFrom (λ k. firstFresh (treesOf t) (jobsOf j) + k) 0 (length (keep fromRows (planOf o t j .specs)))
