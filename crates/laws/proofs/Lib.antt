@@ -14,6 +14,7 @@ pub mod Fuel
 pub mod Disjoint
 pub mod Shapes
 pub mod Sources
+pub mod Rising
 pub mod NamesOnce
 pub mod PlanCall
 pub mod Laws

@@ -23,7 +23,8 @@ use Rattle.laws.specs.NamesOnce.{RowsOnce, NamesOnce}
 use Rattle.laws.proofs.Deal.{of}
 use Rattle.laws.proofs.Windows.{below-mem, last-mem}
 use Rattle.laws.proofs.Picks.{a-row, rows-first}
-use Rattle.laws.proofs.Fresh.{committed-below, rowSpecs, destinationsOf, rowClash, Rising, pick-rises, start-rises}
+use Rattle.laws.proofs.Fresh.{committed-below}
+use Rattle.laws.proofs.Rising.{rowSpecs, destinationsOf, rowClash, Rising, pick-rises, start-rises}
 use Rattle.laws.proofs.Passes.{call-keeps}
 use Rattle.laws.proofs.Distinct.{distinct-weaker, distinct-either, distinct-map}
 use Rattle.laws.proofs.Disjoint.{disjoint}
