@@ -1,0 +1,21 @@
+-- THE STATEMENT: all laws hold.
+use Rattle.laws.specs.Laws.{Laws}
+use Rattle.laws.proofs.Fresh.{sources-suffice}
+use Rattle.laws.proofs.Demand3.{demand3}
+use Rattle.laws.proofs.Fuel.{fuel}
+use Rattle.laws.proofs.Disjoint.{disjoint}
+use Rattle.laws.proofs.Shapes.{shapes}
+use Rattle.laws.proofs.NamesOnce.{names-once}
+use Rattle.laws.proofs.PlanCall.{demand3-call, proposed}
+
+pub laws : Laws
+laws = record {
+  demand3 = demand3;
+  sourcesSuffice = sources-suffice;
+  demand3Call = demand3-call;
+  proposed = proposed;
+  fuel = fuel;
+  disjoint = disjoint;
+  shapes = shapes;
+  namesOnce = names-once;
+}

@@ -1,0 +1,20 @@
+-- Demand 3 is proved in two halves that meet in Passes: a tree's picks follow its own list (Used to Own), and dealing from
+-- lists in turns has the totals and shares that are asked for (Deal). What else is proved of plans, every pick keeps.
+pub mod Used
+pub mod Windows
+pub mod Picks
+pub mod Own
+pub mod Deal
+pub mod Order
+pub mod Passes
+pub mod Distinct
+pub mod Fresh
+pub mod Demand3
+pub mod Fuel
+pub mod Disjoint
+pub mod Shapes
+pub mod Sources
+pub mod Rising
+pub mod NamesOnce
+pub mod PlanCall
+pub mod Laws

@@ -1,0 +1,10 @@
+-- What is proved of the definitions of rules, for every limit and so for every threshold. The proofs of these statements
+-- stand in proofs/, in files of the same names.
+pub mod Demand3
+pub mod Examples
+pub mod Fuel
+pub mod Disjoint
+pub mod Shapes
+pub mod NamesOnce
+pub mod PlanCall
+pub mod Laws

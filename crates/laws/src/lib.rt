@@ -1,0 +1,1 @@
+// Theorems about the definitions of rules: specs/ states them, proofs/ proves them. There is no code here.
