@@ -11,7 +11,7 @@ use Rattle.rules.specs.declared.PlanAnswer.the-variants.{Planned}
 use Rattle.rules.specs.Lists.{all, distinct, _given_else_}
 use Rattle.rules.specs.Tables.{sameUlid}
 use Rattle.rules.specs.Lent.{LentTrees, LentJobs, treesOf, jobsOf, l0Of, runsOf}
-use Rattle.rules.specs.Bounds.{maxConcurrent, treesOutside, jobsOutside, treesAtCapacity, firstIsRoot, fallingIds, goodMarks, treesMisshapen, jobsMisshapen}
+use Rattle.rules.specs.Bounds.{maxConcurrent, treesOutside, jobsOutside, treesAtCapacity, firstIsRoot, fallingIds, goodMarks, goodTrees, treesMisshapen, jobsMisshapen}
 use Rattle.rules.specs.Limit.{limitOf}
 use Rattle.rules.specs.Planning.{LentPlan, badOptions, planRefusal}
 use Rattle.rules.specs.Calls.{planCall}
@@ -30,29 +30,28 @@ passed : (n : ℕ) (b : Bool) (later : ℕ) → (suc n given b else later) ≡ 0
 passed n true later h = absurd (omega arith)
 passed n false later h = (refl, h)
 
--- parts of the test of a shape
-third-fifth-sixth : (a b c d e f g : Bool) → not (a && b && c && d && e && f && g) ≡ false → (c ≡ true) × (e ≡ true) × (f ≡ true)
-third-fifth-sixth a b c d e f g h =
-    let six = and-left (a && b && c && d && e && f) g (not-false (a && b && c && d && e && f && g) h) in
-    let five = and-left (a && b && c && d && e) f six in
-    let three = and-left (a && b && c) d (and-left (a && b && c && d) e five) in
-    (and-right (a && b) c three, and-right (a && b && c && d) e five, and-right (a && b && c && d && e) f six)
+-- the parts of the rules on trees
+second-fourth-fifth : (a b c d e f : Bool) → a && b && c && d && e && f ≡ true → (b ≡ true) × (d ≡ true) × (e ≡ true)
+second-fourth-fifth a b c d e f h =
+    let five = and-left (a && b && c && d && e) f h in
+    let four = and-left (a && b && c && d) e five in
+    let two = and-left (a && b) c (and-left (a && b && c) d four) in
+    (and-right a b two, and-right (a && b && c) d four, and-right (a && b && c && d) e five)
 
 -- "a prefix twice" is refused, and "a run id or L0 view id twice anywhere"
 rows-once : (t : LentTrees) → treesMisshapen t ≡ false → RowsOnce (treesOf t)
-unfolding treesMisshapen
+unfolding treesMisshapen goodTrees
 rows-once t h =
     let ts = treesOf t in
     let parts =
-    third-fifth-sixth
-    (treesAtCapacity t)
+    second-fourth-fifth
     (firstIsRoot ts)
     (distinct eqb (map (λ x. x .prefix) ts))
     (all (λ x. fallingIds (x .runs)) ts)
     (distinct eqb (map (λ r. r .id) (runsOf ts)))
     (distinct sameUlid (map (λ v. v .view) (l0Of ts)))
     (all goodMarks ts)
-    h in
+    (and-right (treesAtCapacity t) (goodTrees ts) (not-false (treesAtCapacity t && goodTrees ts) h)) in
     record { prefixes = parts .0; runs = parts .1; views = parts .2 }
 
 -- not 1 ≤ min ≤ max is refused
