@@ -13,3 +13,4 @@ pub mod Consecutive
 pub mod Lowest
 pub mod OneList
 pub mod Validated
+pub mod SizeSums

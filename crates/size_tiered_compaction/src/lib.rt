@@ -1,6 +1,7 @@
 // slatedb's size-tiered planner over rows of lent tables: used ids, holding back, chains, windows.
 pub mod backpressure;
 pub mod conflict;
+pub mod refusals;
 pub mod run;
 pub mod validate;
 pub mod window;
