@@ -9,3 +9,7 @@ pub mod Greatest
 pub mod Beginnings
 pub mod LeastRun
 pub mod Clamped
+pub mod Counting
+pub mod JobRows
+pub mod Largest
+pub mod FirstFresh

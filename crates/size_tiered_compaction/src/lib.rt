@@ -1,5 +1,7 @@
-// slatedb's size-tiered planner over rows of lent tables: used ids, holding back, chains, windows.
+// slatedb's size-tiered planner over rows of lent tables: used ids, holding back, chains, windows, fresh numbers, slots.
 pub mod backpressure;
 pub mod conflict;
+pub mod fresh;
 pub mod run;
+pub mod slots;
 pub mod window;
