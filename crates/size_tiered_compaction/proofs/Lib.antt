@@ -13,3 +13,4 @@ pub mod Counting
 pub mod JobRows
 pub mod Largest
 pub mod FirstFresh
+pub mod JobKeys

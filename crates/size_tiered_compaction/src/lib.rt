@@ -4,4 +4,5 @@ pub mod conflict;
 pub mod fresh;
 pub mod run;
 pub mod slots;
+pub mod used;
 pub mod window;
