@@ -14,3 +14,5 @@ pub mod JobRows
 pub mod Largest
 pub mod FirstFresh
 pub mod JobKeys
+pub mod Ordering
+pub mod AskedRows

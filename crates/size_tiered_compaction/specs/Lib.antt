@@ -5,3 +5,4 @@ pub mod TreeState
 pub mod Window
 pub mod Asked
 pub mod UsedByJobs
+pub mod Order
