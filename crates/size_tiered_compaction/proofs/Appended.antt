@@ -30,7 +30,7 @@ last-append (y ∷ []) x = refl
 last-append (y ∷ (z ∷ ys)) x = last-append (z ∷ ys) x
 
 -- the sum of both
-total-append : (xs ys : List ℕ) → total (xs ++ ys) ≡ total xs + total ys
+pub total-append : (xs ys : List ℕ) → total (xs ++ ys) ≡ total xs + total ys
 unfolding total
 total-append [] ys = omega arith
 total-append (x ∷ xs) ys = omega (arith, total-append xs ys)

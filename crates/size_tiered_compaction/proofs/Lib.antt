@@ -14,3 +14,10 @@ pub mod Lowest
 pub mod OneList
 pub mod Validated
 pub mod SizeSums
+pub mod Counting
+pub mod JobRows
+pub mod Largest
+pub mod FirstFresh
+pub mod JobKeys
+pub mod Ordering
+pub mod AskedRows

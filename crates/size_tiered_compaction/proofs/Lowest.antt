@@ -10,7 +10,7 @@ use Rattle.rules.specs.Tables.{Ulid, SourceId, sortedRun, sstView, idOf}
 use Rattle.rules.specs.Lent.{rowsFrom}
 use Rattle.rules.specs.Validation.{lowestRun}
 use Rattle.rules.proofs.Rows.{rows-next, rows-end}
-use Rattle.size_tiered_compaction.specs.Order.{joinedLow}
+use Rattle.size_tiered_compaction.specs.LogicalOrder.{joinedLow}
 
 joined-assoc : (a b c : Option ℕ) → joinedLow (joinedLow a b) c ≡ joinedLow a (joinedLow b c)
 joined-assoc none b c = refl

@@ -18,7 +18,7 @@ use Rattle.rules.proofs.Rows.{rowsFrom-append, rowsFrom-same, map-rowsFrom}
 use Rattle.rules.proofs.Records.{ulid-eq}
 use Rattle.rows.specs.Read.{Stands}
 use Rattle.rows.proofs.Found.{tree-found, tree-missing}
-use Rattle.size_tiered_compaction.specs.Order.{orderAt, namedAt}
+use Rattle.size_tiered_compaction.specs.LogicalOrder.{orderAt, namedAt}
 
 -- a number of a part
 part-at : (s : List ℕ) (from size i : ℕ) → i < size → getD (take size (drop from s)) i 0 ≡ getD s (from + i) 0

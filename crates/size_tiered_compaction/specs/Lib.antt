@@ -5,4 +5,6 @@ pub mod TreeState
 pub mod Window
 pub mod Asked
 pub mod Order
+pub mod LogicalOrder
 pub mod Sizes
+pub mod UsedByJobs

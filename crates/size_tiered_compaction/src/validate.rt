@@ -9,7 +9,7 @@ ghost use Rattle.rules.specs.Tables.{Ulid, Source, Tree, sameId, idOf};
 ghost use Rattle.rules.specs.Lent.{LentTrees, lentTrees, rowsFrom, treesOf};
 ghost use Rattle.rules.specs.Validation.{startsWith, consecutive, lowestRun, wrongDestination, lentSources, logicalOrder, treeWith, tieredRefusal, lentSpec};
 ghost use Rattle.rules.specs.Calls.{validateCall};
-ghost use Rattle.size_tiered_compaction.specs.Order.{orderAt, namedAt, lowestOf, joinedLow};
+ghost use Rattle.size_tiered_compaction.specs.LogicalOrder.{orderAt, namedAt, lowestOf, joinedLow};
 use rows::find::find_prefix;
 use rows::ids::same_source;
 use rows::jobs::sources_good;

@@ -6,7 +6,7 @@ use lib.ListN.{length}
 use Rattle.rules.specs.Lent.{rowsFrom}
 use Rattle.rules.specs.Validation.{consecutive}
 use Rattle.rows.proofs.Scans.{Left, scan-starts}
-use Rattle.size_tiered_compaction.specs.Order.{orderAt, namedAt}
+use Rattle.size_tiered_compaction.specs.LogicalOrder.{orderAt, namedAt}
 use Rattle.size_tiered_compaction.proofs.Consecutive.{place-found, place-on, places-end}
 use Rattle.size_tiered_compaction.proofs.validate.are_consecutive.Statement.{statement}
 use Rattle.size_tiered_compaction.proofs.validate.are_consecutive.Tie as tie

@@ -2,7 +2,7 @@
 use borrow.Author.Needs.{needs}
 use mathlib.Core.Path.{sym, ap, _∙_}
 use Rattle.rules.specs.Validation.{wrongDestination}
-use Rattle.size_tiered_compaction.specs.Order.{lowestOf}
+use Rattle.size_tiered_compaction.specs.LogicalOrder.{lowestOf}
 use Rattle.size_tiered_compaction.proofs.validate.destination_wrong.Statement.{statement}
 use Rattle.size_tiered_compaction.proofs.validate.destination_wrong.Tie as tie
 

@@ -1,7 +1,7 @@
 -- `lower` meets its contract: a view makes no difference, a run is held against the lowest so far.
 use borrow.Author.Needs.{needs}
 use mathlib.Core.Path.{ap}
-use Rattle.size_tiered_compaction.specs.Order.{lowestOf}
+use Rattle.size_tiered_compaction.specs.LogicalOrder.{lowestOf}
 use Rattle.size_tiered_compaction.proofs.Lowest.{view-more, run-first, run-lower, run-higher}
 use Rattle.size_tiered_compaction.proofs.validate.lower.Statement.{statement}
 use Rattle.size_tiered_compaction.proofs.validate.lower.Tie as tie

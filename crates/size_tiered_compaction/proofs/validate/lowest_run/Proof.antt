@@ -3,7 +3,7 @@ use borrow.Author.Needs.{needs}
 use Prim.Native.Nat.{ℕ, _-_}
 use mathlib.Core.List.{List}
 use lib.ListN.{length}
-use Rattle.size_tiered_compaction.specs.Order.{namedAt, lowestOf}
+use Rattle.size_tiered_compaction.specs.LogicalOrder.{namedAt, lowestOf}
 use Rattle.size_tiered_compaction.proofs.Lowest.{Lower, low-starts, low-on, low-ends}
 use Rattle.size_tiered_compaction.proofs.validate.lowest_run.Statement.{statement}
 use Rattle.size_tiered_compaction.proofs.validate.lowest_run.Tie as tie

@@ -8,7 +8,7 @@ use native.Mathlib.Omega.{arith}
 use lib.ListN.{length}
 use Rattle.rules.specs.Lent.{rowsFrom}
 use Rattle.rules.specs.Validation.{startsWith}
-use Rattle.size_tiered_compaction.specs.Order.{orderAt, namedAt}
+use Rattle.size_tiered_compaction.specs.LogicalOrder.{orderAt, namedAt}
 use Rattle.size_tiered_compaction.proofs.Consecutive.{Matches, match-starts, match-short, match-breaks, match-on, match-ends}
 use Rattle.size_tiered_compaction.proofs.validate.starts_with.Statement.{statement}
 use Rattle.size_tiered_compaction.proofs.validate.starts_with.Tie as tie
