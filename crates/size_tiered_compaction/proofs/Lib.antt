@@ -9,3 +9,5 @@ pub mod Greatest
 pub mod Beginnings
 pub mod LeastRun
 pub mod Clamped
+pub mod SizesLeft
+pub mod OldestRows

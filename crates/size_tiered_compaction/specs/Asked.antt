@@ -5,7 +5,7 @@ use mathlib.Core.List.{List, map}
 use mathlib.Core.Bool.{cond}
 use lib.Dec.{eqb}
 use lib.ListN.{getD}
-use Rattle.rules.specs.Tables.{L0Row, Run, Tree, SourceId, sortedRun, sstView}
+use Rattle.rules.specs.Tables.{L0Row, Run, Tree, sortedRun, sstView}
 use Rattle.rules.specs.Lent.{rowsFrom, ulidAt}
 use Rattle.rules.specs.Pick.{Spec}
 use Rattle.rules.specs.Plan.{State}

@@ -4,3 +4,4 @@ pub mod Backpressure
 pub mod TreeState
 pub mod Window
 pub mod Asked
+pub mod Pick

@@ -3,7 +3,7 @@
 ghost use mathlib.Core.Path.{_≡_};
 ghost use Prim.Native.Nat.{_+_, _*_, _<_, _≤_};
 ghost use lib.ListN.{length};
-ghost use Rattle.rules.specs.Tables.{sortedRun};
+ghost use Rattle.rules.specs.Tables.{sortedRun, sstView};
 ghost use Rattle.size_tiered_compaction.specs.Conflict.{sameKey, keyAt, keysOf, holds, usedIn, Added};
 use rows::ids::same_ulid;
 
@@ -41,6 +41,13 @@ pub fn run_is_used(used: &[u64], n: usize, prefix: u32, run: u32) -> bool
     ensures { λ r. ⌜ r ≡ usedIn (keysOf (now (used .entry)) n) prefix (sortedRun run) ⌝ }
 {
     is_used(used, n, prefix as u64, 1, 0, run as u64)
+}
+
+pub fn view_is_used(used: &[u64], n: usize, prefix: u32, high: u64, low: u64) -> bool
+    requires { ⌜ 4 * n ≤ length (now used) ⌝ }
+    ensures { λ r. ⌜ r ≡ usedIn (keysOf (now (used .entry)) n) prefix (sstView (record { high = high; low = low })) ⌝ }
+{
+    is_used(used, n, prefix as u64, 0, high, low)
 }
 
 // One key more, after the first `n`.

@@ -1,5 +1,6 @@
 // slatedb's size-tiered planner over rows of lent tables: used ids, holding back, chains, windows.
 pub mod backpressure;
 pub mod conflict;
+pub mod pick;
 pub mod run;
 pub mod window;
