@@ -11,3 +11,5 @@ pub mod LeastRun
 pub mod Clamped
 pub mod SizesLeft
 pub mod OldestRows
+pub mod Parts
+pub mod OnePick

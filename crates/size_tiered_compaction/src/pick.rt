@@ -1,9 +1,8 @@
 // One pick from a tree: slatedb's pick_next_compaction, over the parts of the lent slices that are the tree's.
 ghost use mathlib.Core.Path.{_≡_};
 ghost use mathlib.Core.Bool.{not};
-ghost use Prim.Native.Nat.{_-_, _*_, _^_, _<_, _≤_};
+ghost use Prim.Native.Nat.{ℕ, _-_, _*_, _^_, _<_, _≤_};
 ghost use mathlib.Core.List.{List};
-ghost use Prim.Native.Nat.{ℕ};
 ghost use lib.ListN.{length, drop};
 ghost use Rattle.rules.specs.Lists.{all, total};
 ghost use Rattle.rules.specs.Limit.{limitOf};
@@ -11,12 +10,28 @@ ghost use Rattle.rules.specs.Tables.{Tree};
 ghost use Rattle.rules.specs.Pick.{takesRows};
 ghost use Rattle.size_tiered_compaction.specs.Backpressure.{Chains};
 ghost use Rattle.size_tiered_compaction.specs.Conflict.{keysOf, usedIn};
-ghost use Rattle.size_tiered_compaction.specs.Pick.{L0State, TreeIn, viewsIn};
+ghost use Rattle.size_tiered_compaction.specs.Pick.{L0State, TreeIn, viewsIn, Bounded, PickedFrom};
+ghost use Rattle.size_tiered_compaction.specs.TreeState.{TreeState};
 use crate::backpressure::held_back;
 use crate::conflict::run_is_used;
 use crate::conflict::view_is_used;
+use crate::window::find_window;
 use rows::bounds::wide;
 use rules::Options;
+
+// What a tree gives when it is asked, its sources by their rows in the tree.
+pub enum Pick {
+    Nothing,
+    Rows {
+        from: usize,
+        count: usize,
+    },
+    Window {
+        from: usize,
+        count: usize,
+        destination: u32,
+    },
+}
 
 // "take the last max of them (the oldest)": where these start among `count` L0 rows.
 fn oldest_from(o: Options, count: usize) -> usize
@@ -87,4 +102,51 @@ fn takes_rows(
         return false;
     }
     !held_back(o, size_from(l0_sizes, from), run_sizes, chains, 0)
+}
+
+// "One pick from a tree": step 1, "Otherwise" step 2, whose "Destination: the last run."
+pub fn pick_next_compaction(
+    o: Options,
+    used: &[u64],
+    n: usize,
+    prefix: u32,
+    fresh: u32,
+    l0_ids: &[u64],
+    l0_sizes: &[u64],
+    run_ids: &[u32],
+    run_sizes: &[u64],
+    chains: &[usize],
+) -> Pick
+    requires { ⌜ Bounded o × L0State (now «l0_ids») (now «l0_sizes») × TreeState (limitOf (o .threshold)) (now used) n (now «run_ids») (now «run_sizes») (now chains) ⌝ }
+    ensures { λ r. ⌜ PickedFrom (limitOf (o .threshold)) o (usedIn (keysOf (now (used .entry)) n) prefix) prefix fresh (now («l0_ids» .entry)) (now («l0_sizes» .entry)) (now («run_ids» .entry)) (now («run_sizes» .entry)) r ⌝ }
+{
+    if takes_rows(
+        o,
+        used,
+        n,
+        prefix,
+        fresh,
+        l0_ids,
+        l0_sizes,
+        run_sizes,
+        chains,
+    ) {
+        let rows = l0_sizes.len();
+        let from = oldest_from(o, rows);
+        return Pick::Rows {
+            from,
+            count: rows - from,
+        };
+    }
+    let w = find_window(o, used, n, prefix, run_ids, run_sizes, chains);
+    let from = w.from;
+    let count = w.count;
+    if count == 0 {
+        return Pick::Nothing;
+    }
+    Pick::Window {
+        from,
+        count,
+        destination: run_ids[from + (count - 1)],
+    }
 }
