@@ -13,3 +13,5 @@ pub mod SizesLeft
 pub mod OldestRows
 pub mod Parts
 pub mod OnePick
+pub mod Adding
+pub mod PickRows

@@ -5,3 +5,4 @@ pub mod TreeState
 pub mod Window
 pub mod Asked
 pub mod Pick
+pub mod Ask

@@ -1,4 +1,5 @@
 // slatedb's size-tiered planner over rows of lent tables: used ids, holding back, chains, windows.
+pub mod ask;
 pub mod backpressure;
 pub mod conflict;
 pub mod pick;
