@@ -15,3 +15,5 @@ pub mod Parts
 pub mod OnePick
 pub mod Adding
 pub mod PickRows
+pub mod Steps
+pub mod AskedTrees
