@@ -17,3 +17,4 @@ pub mod Adding
 pub mod PickRows
 pub mod Steps
 pub mod AskedTrees
+pub mod Turns

@@ -6,3 +6,4 @@ pub mod Window
 pub mod Asked
 pub mod Pick
 pub mod Ask
+pub mod Passes

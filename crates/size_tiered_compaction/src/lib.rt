@@ -2,6 +2,7 @@
 pub mod ask;
 pub mod backpressure;
 pub mod conflict;
+pub mod passes;
 pub mod pick;
 pub mod run;
 pub mod window;
