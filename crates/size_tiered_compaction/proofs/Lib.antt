@@ -21,3 +21,12 @@ pub mod FirstFresh
 pub mod JobKeys
 pub mod Ordering
 pub mod AskedRows
+pub mod SizesLeft
+pub mod OldestRows
+pub mod Parts
+pub mod OnePick
+pub mod Adding
+pub mod PickRows
+pub mod Steps
+pub mod AskedTrees
+pub mod Turns

@@ -8,3 +8,6 @@ pub mod Order
 pub mod LogicalOrder
 pub mod Sizes
 pub mod UsedByJobs
+pub mod Pick
+pub mod Ask
+pub mod Passes
