@@ -1,4 +1,4 @@
--- Where the rows of a tree lie.
+-- Where the rows of a tree, or the source entries of a job, lie.
 use Prim.Native.Nat.{ℕ, _+_, _*_, _≤_}
 use mathlib.Core.Path.{_≡_}
 use mathlib.Core.List.{List}
@@ -15,3 +15,9 @@ pub record Stands (trees : List ℕ) (n i l c r d : ℕ) : Type 0 where
   pub runs : d ≡ getD trees (3 * i + 2) 0
   pub rowsWithin : l + c ≤ total (rowsFrom (λ k. getD trees (3 * k + 1) 0) 0 n)
   pub runsWithin : r + d ≤ total (rowsFrom (λ k. getD trees (3 * k + 2) 0) 0 n)
+
+-- job i of n: its c source entries start at entry s, after those of the jobs before it, and they stand within those of all
+pub record Entries (jobSpecs : List ℕ) (n i s c : ℕ) : Type 0 where
+  pub first : s ≡ total (rowsFrom (λ k. getD jobSpecs (3 * k + 2) 0) 0 i)
+  pub count : c ≡ getD jobSpecs (3 * i + 2) 0
+  pub within : s + c ≤ total (rowsFrom (λ k. getD jobSpecs (3 * k + 2) 0) 0 n)
