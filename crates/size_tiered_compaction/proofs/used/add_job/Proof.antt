@@ -56,7 +56,7 @@ same-length : tie.Need-same-length
 same-length c = search needs
 
 returns-2 : tie.Need-returns-2
-returns-2 c = job-drain _ (c .before .before .before .before .before .before .before .before .before .if1 .left) (rw (c .before .before .before .before .before .before .wide .ensures) at (c .before .before .before .before .add-sources .ensures)) (c .if2 .taken)
+returns-2 c = job-drain _ (c .before .before .before .before .before .before .before .before .before .if1 .left) (rw (← c .before .before .before .before .before .before .wide .ensures) (c .before .before .before .before .add-sources .ensures)) (c .if2 .taken)
 
 cast-add-used : tie.Need-cast-add-used
 cast-add-used c = omega (arith, c .before .before .before .before .before .before .before .before .before .shared-slice-known7 .given (3 * (c .before .before .before .before .before .before .before .before .before .before .before .before .before .before .before .before .before .before .args .i)))
@@ -86,7 +86,7 @@ same-length-2 : tie.Need-same-length-2
 same-length-2 c = search needs
 
 returns-3 : tie.Need-returns-3
-returns-3 c = job-tiered _ (c .before .before .before .before .before .before .before .before .before .before .before .before .before .before .if1 .left) (rw (c .before .before .before .before .before .before .before .before .before .before .before .wide .ensures) at (c .before .before .before .before .before .before .before .before .before .add-sources .ensures)) (c .before .before .before .before .before .if2 .left) (c .before .before .add-used .ensures)
+returns-3 c = job-tiered _ (c .before .before .before .before .before .before .before .before .before .before .before .before .before .before .if1 .left) (rw (← c .before .before .before .before .before .before .before .before .before .before .before .wide .ensures) (c .before .before .before .before .before .before .before .before .before .add-sources .ensures)) (c .before .before .before .before .before .if2 .left) (c .before .before .add-used .ensures)
 
 pub add-job-spec : {M : Type 1} → statement M
 add-job-spec =
