@@ -14,9 +14,10 @@ use Rattle.rules.specs.Tables.{SourceId, Tree, Job, among}
 use Rattle.rules.specs.Windows.{usedIds}
 use Rattle.rules.specs.Pick.{Spec, specUses, also, Picked, pick, andOn, ownFirst, ownList}
 use Rattle.rules.specs.Plan.{State, withPick, firstFresh, freeSlots, ordered, start, planned, ownListOf}
+use Rattle.rules.proofs.Appended.{any-append, all-append}
 use Rattle.rules.proofs.Lookups.{and-left, and-right}
 use Rattle.laws.specs.Disjoint.{isFree, sharing, Disjoint}
-use Rattle.laws.proofs.Used.{all-append, any-append, unused, plus, unused-plus}
+use Rattle.laws.proofs.Used.{unused, plus, unused-plus}
 use Rattle.laws.proofs.Picks.{pick-prefix, pick-free}
 use Rattle.laws.proofs.Distinct.{distinct-last}
 use Rattle.laws.proofs.Passes.{call-keeps}

@@ -6,7 +6,7 @@ use mathlib.Core.Bool.{Bool, true, false, _&&_, _||_, not, true≢false}
 use borrow.Author.Tests.{not-true}
 use Rattle.rules.specs.Lists.{any, distinct, concatMap}
 use Rattle.rules.proofs.Lookups.{and-left, and-right, or-left, or-right}
-use Rattle.laws.proofs.Used.{any-append}
+use Rattle.rules.proofs.Appended.{any-append}
 
 -- a test that fails of each fails of all, and back
 module _ {A : Type 0} (p : A → Bool) where

@@ -2,7 +2,7 @@
 use Prim.Native.Nat.{ℕ, _+_, _≤_, _<_, max}
 use mathlib.Core.Path.{_≡_, refl, sym, ap, ap₂, _∙_, subst}
 use mathlib.Core.Logic.{_⊎_, inl, inr}
-use mathlib.Core.List.{List, [], _∷_, _++_, map, map-append, List·Memᴰ, List·Memᴰ·head, List·Memᴰ·tail, List·Memᴰ·not-nil, List·Memᴰ·append-cases, List·Memᴰ·eq-of-singleton, Memᴰ·map, Memᴰ·of-map}
+use mathlib.Core.List.{List, [], _∷_, map, map-append, List·Memᴰ, List·Memᴰ·head, List·Memᴰ·tail, List·Memᴰ·not-nil, List·Memᴰ·append-cases, List·Memᴰ·eq-of-singleton, Memᴰ·map, Memᴰ·of-map}
 use mathlib.Core.Bool.{Bool, true, false, cond, _&&_, not}
 use native.Mathlib.Omega.{arith}
 use lib.Dec.{eqb}
@@ -14,6 +14,7 @@ use Rattle.rules.specs.Lent.{runsOf}
 use Rattle.rules.specs.Windows.{jobUses, usedIds}
 use Rattle.rules.specs.Pick.{lastRun, idsOf}
 use Rattle.rules.specs.Plan.{firstFresh}
+use Rattle.rules.proofs.Appended.{above-append}
 use Rattle.rules.proofs.Lookups.{and-left, and-right}
 use Rattle.laws.specs.Demand3.{RunsBelow, SourcesBelow}
 use Rattle.laws.proofs.Used.{mem-any, same-id}
@@ -21,12 +22,6 @@ use Rattle.laws.proofs.Windows.{Below, below-mem}
 use Rattle.laws.proofs.Distinct.{mem-concat}
 
 -- ---- the runs of trees
-
--- one above two lists
-above-append : (xs ys : List ℕ) → oneAbove (xs ++ ys) ≡ max (oneAbove xs) (oneAbove ys)
-unfolding oneAbove
-above-append [] ys = omega arith
-above-append (x ∷ xs) ys = omega (arith, above-append xs ys)
 
 -- all ids are below what is one above them
 above-below : (first : ℕ) (ids : List ℕ) → oneAbove ids ≤ first → Below first ids

@@ -15,9 +15,10 @@ use Rattle.rules.specs.Tables.{SourceId, sortedRun, L0Row, Tree, among, viewId}
 use Rattle.rules.specs.Chain.{heldBack}
 use Rattle.rules.specs.Windows.{passes, last, window}
 use Rattle.rules.specs.Pick.{Spec, specUses, also, lastRun, Picked, idsOf, sizesOf, l0SizesOf, oldest, takesRows, rowPick, runPick, pick, andOn, ownFirst, ownList}
+use Rattle.rules.proofs.Appended.{all-append}
 use Rattle.rules.proofs.Lookups.{and-left}
 use Rattle.laws.specs.Demand3.{firstIsRow, aside}
-use Rattle.laws.proofs.Used.{Old, AllOld, Same, all-append, all-mem, among-append, mem-among, old-append, old-not-fresh, fresh-none, unused, unused-same, unused-plus, free, free-length}
+use Rattle.laws.proofs.Used.{Old, AllOld, Same, all-mem, among-append, mem-among, old-append, old-not-fresh, fresh-none, unused, unused-same, unused-plus, free, free-length}
 use Rattle.laws.proofs.Windows.{Below, below-old, below-drop, below-last, window-same, window-below}
 use Rattle.laws.proofs.Picks.{rowsOf, rows-length, oldestIds, a-row, rows-first, fewer}
 

@@ -14,9 +14,10 @@ use Rattle.rules.specs.Tables.{SourceId, sortedRun, L0Row, Tree, among, viewId}
 use Rattle.rules.specs.Chain.{heldBack}
 use Rattle.rules.specs.Windows.{passes, last, window}
 use Rattle.rules.specs.Pick.{Spec, specUses, also, Picked, idsOf, sizesOf, l0SizesOf, oldest, takesRows, rowPick, runPick, pick}
+use Rattle.rules.proofs.Appended.{all-append}
 use Rattle.rules.proofs.Lookups.{and-left, and-right}
 use Rattle.laws.specs.Demand3.{firstIsRow, fromRows}
-use Rattle.laws.proofs.Used.{all-append, all-mem, mem-among, unused, free, free-lt}
+use Rattle.laws.proofs.Used.{all-mem, mem-among, unused, free, free-lt}
 use Rattle.laws.proofs.Windows.{window-free}
 
 -- the ids of a tree's rows and runs

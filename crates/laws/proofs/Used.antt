@@ -2,29 +2,18 @@
 use Prim.Native.Nat.{ℕ, suc, _≤_, _<_}
 use mathlib.Core.Path.{_≡_, refl, sym, ap, ap₂}
 use mathlib.Core.List.{List, [], _∷_, _++_, List·Memᴰ, List·Memᴰ·head, List·Memᴰ·tail}
-use mathlib.Core.Bool.{Bool, true, false, cond, _&&_, _||_, not, and-assoc, or-assoc, or-true, and-false, false≢true}
+use mathlib.Core.Bool.{Bool, true, false, cond, _&&_, _||_, not, or-true, and-false, false≢true}
 use native.Mathlib.Omega.{arith}
 use lib.ListN.{length}
 use borrow.Author.Tests.{eqb-true, eq-eqb, ne-eqb}
 use Rattle.rules.specs.Lists.{any, all, keep}
 use Rattle.rules.specs.Tables.{SourceId, sortedRun, sstView, sameId, among}
+use Rattle.rules.proofs.Appended.{any-append}
 use Rattle.rules.proofs.Lookups.{and-left, and-right, same-ulid, ulid-same}
 
 -- ---- tests over lists
 
 module _ {A : Type 0} (p : A → Bool) where
-  -- a test of all, of two lists
-  pub all-append : (xs ys : List A) → all p (xs ++ ys) ≡ (all p xs && all p ys)
-  unfolding all
-  all-append [] ys = refl
-  all-append (x ∷ xs) ys = rw (all-append xs ys) (sym (and-assoc (p x) (all p xs) (all p ys)))
-
-  -- a test of some, of two lists
-  pub any-append : (xs ys : List A) → any p (xs ++ ys) ≡ (any p xs || any p ys)
-  unfolding any
-  any-append [] ys = refl
-  any-append (x ∷ xs) ys = rw (any-append xs ys) (sym (or-assoc (p x) (any p xs) (any p ys)))
-
   -- what holds of all holds of each
   pub all-mem : {x : A} {xs : List A} → all p xs ≡ true → List·Memᴰ x xs → p x ≡ true
   unfolding all

@@ -1,8 +1,8 @@
 -- Refusal 2's rules on trees and jobs (`goodTrees`, `goodJobs`), as they are read off the slices.
 use Prim.Native.Nat.{ℕ, zero, suc, _+_, _*_, _<_}
 use mathlib.Core.Path.{_≡_, refl, sym, ap, _∙_}
-use mathlib.Core.List.{List, [], _∷_, _++_, map}
-use mathlib.Core.Bool.{Bool, true, false, _&&_, and-assoc}
+use mathlib.Core.List.{List, [], _∷_, map}
+use mathlib.Core.Bool.{Bool, true, false, _&&_}
 use native.Mathlib.Nat.{one-mul, lt-irrefl}
 use lib.Dec.{eqb, ltb}
 use lib.ListN.{getD}
@@ -10,6 +10,7 @@ use Rattle.rules.specs.Lists.{all, linked, distinct, total}
 use Rattle.rules.specs.Tables.{Ulid, sameUlid, ulidBelow, L0Row, Run, Source, Job}
 use Rattle.rules.specs.Lent.{LentTrees, LentJobs, rowsFrom, ulidAt, l0At, runAt, sourceAt, l0Count, runCount, sourceCount, treesFrom, treesOf, jobsFrom, jobsOf, l0Used, runsUsed, l0Of, runsOf}
 use Rattle.rules.specs.Bounds.{isMark, firstIsRoot, fallingIds, goodTrees, goodSources, goodJob, goodJobs}
+use Rattle.rules.proofs.Appended.{all-append}
 use Rattle.rules.proofs.Rows.{rowsFrom-same, rowsFrom-append, map-rowsFrom}
 use Rattle.rules.proofs.Packed.{l0-first, runs-first, prefixes, marks}
 use Rattle.rows.specs.Shape.{fallingFrom, goodMarksAt, flatTrees, flatJobs}
@@ -27,12 +28,6 @@ module _ {A B : Type 0} (g : A → B) where
   linked-map r [] = refl
   linked-map r (x ∷ []) = refl
   linked-map r (x ∷ (y ∷ ys)) = ap (λ (b : Bool). r (g x) (g y) && b) (linked-map r (y ∷ ys))
-
-module _ {A : Type 0} where
-  pub all-append : (p : A → Bool) (xs ys : List A) → all p (xs ++ ys) ≡ all p xs && all p ys
-  unfolding all
-  all-append p [] ys = refl
-  all-append p (x ∷ xs) ys = ap (λ (b : Bool). p x && b) (all-append p xs ys) ∙ sym (and-assoc (p x) (all p xs) (all p ys))
 
 -- rows of one number
 pub width-one : (s : List ℕ) (n : ℕ) → rowsFrom (λ k. getD s (1 * k) 0) 0 n ≡ rowsFrom (λ k. getD s k 0) 0 n

@@ -1,11 +1,11 @@
 -- A loop that sums rows: what it has and the sum of the rows that are left are the sum of all.
 use Prim.Native.Nat.{ℕ, _+_, _-_, _≤_, _<_}
-use mathlib.Core.Path.{_≡_, sym, ap, _∙_}
-use mathlib.Core.List.{List, [], _∷_, _++_}
+use mathlib.Core.Path.{_≡_, ap, _∙_}
 use native.Mathlib.Nat.{zero-add}
 use native.Mathlib.Omega.{arith}
 use Rattle.rules.specs.Lists.{total}
 use Rattle.rules.specs.Lent.{rowsFrom}
+use Rattle.rules.proofs.Appended.{total-append}
 use Rattle.rules.proofs.Rows.{rowsFrom-append, rows-next, rows-end}
 
 abbrev pub Summed : (ℕ → ℕ) → ℕ → ℕ → ℕ → Type 0
@@ -24,11 +24,6 @@ module _ (f : ℕ → ℕ) (n : ℕ) where
   pub sum-ends : (sum i : ℕ) → n ≤ i → Summed f n sum i → sum ≡ total (rowsFrom f 0 n)
   unfolding total
   sum-ends sum i h s = omega (arith, ap total (rows-end f i n h))
-
-total-append : (xs ys : List ℕ) → total (xs ++ ys) ≡ total xs + total ys
-unfolding total
-total-append [] ys = sym (zero-add (total ys))
-total-append (x ∷ xs) ys = omega (arith, total-append xs ys)
 
 -- the rows of one of n, after those before it, stand within those of all
 pub part-within : (f : ℕ → ℕ) (i n : ℕ) → i < n → total (rowsFrom f 0 i) + f i ≤ total (rowsFrom f 0 n)

@@ -2,6 +2,7 @@
 -- whole-number ends of the size limit.
 pub mod Records
 pub mod Rows
+pub mod Appended
 pub mod Laid
 pub mod Packed
 pub mod ReadBack

@@ -13,8 +13,9 @@ use Rattle.rules.specs.Lists.{all, total}
 use Rattle.rules.specs.Tables.{SourceId, sortedRun}
 use Rattle.rules.specs.Chain.{chain}
 use Rattle.rules.specs.Windows.{passes, beginningPasses, upTo, lasting, greatest}
+use Rattle.rules.proofs.Appended.{all-append}
 use Rattle.rules.proofs.Lookups.{and-left}
-use Rattle.size_tiered_compaction.proofs.Appended.{all-append, last-append, total-split, total-suc}
+use Rattle.size_tiered_compaction.proofs.Appended.{last-append, total-split, total-suc}
 use Rattle.size_tiered_compaction.proofs.Chains.{chain-fits}
 use Rattle.size_tiered_compaction.proofs.Greatest.{upTo-past, greatest-is}
 

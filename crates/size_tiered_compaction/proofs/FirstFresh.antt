@@ -11,7 +11,7 @@ use Rattle.rules.specs.Pick.{idsOf, lastRun}
 use Rattle.rules.specs.Plan.{firstFresh}
 use Rattle.rules.proofs.Rows.{map-rowsFrom}
 use Rattle.rules.proofs.Packed.{runs-first}
-use Rattle.size_tiered_compaction.proofs.Largest.{above-append}
+use Rattle.rules.proofs.Appended.{above-append}
 
 -- the larger of the two, stopped
 pub fresh-is : (t : LentTrees) (js : List Job) {runs : ℕ} {ids : List ℕ} → runsUsed t ≡ runs → t .runIds ≡ ids

@@ -16,7 +16,7 @@ use Rattle.rules.proofs.Rows.{length-rowsFrom, rowsFrom-append}
 use Rattle.rows.proofs.Sums.{Summed, sum-starts, sum-next, sum-ends}
 use Rattle.size_tiered_compaction.specs.Conflict.{Key, keyOf, keysOf, usedIn, holds, Added}
 use Rattle.size_tiered_compaction.specs.UsedByJobs.{sourceKeys, jobKeys, AddedAll, UsedByJobs}
-use Rattle.size_tiered_compaction.proofs.Appended.{any-append}
+use Rattle.rules.proofs.Appended.{any-append}
 use Rattle.size_tiered_compaction.proofs.UsedIds.{used-more, used-of-tree}
 
 module _ {before : List ℕ} {n : ℕ} where

@@ -1,19 +1,13 @@
--- One above the largest number: of lists that stand one after the other, and of the rows with p, by a loop.
+-- One above the largest number of the rows with p, by a loop.
 use Prim.Native.Nat.{ℕ, _+_, _-_, _≤_, _<_, max}
 use mathlib.Core.Path.{_≡_, refl, ap}
-use mathlib.Core.List.{List, [], _∷_, _++_, map}
+use mathlib.Core.List.{List, [], _∷_, map}
 use mathlib.Core.Bool.{Bool, true, false}
 use native.Mathlib.Nat.{sub-zero}
 use native.Mathlib.Omega.{arith}
 use Rattle.rules.specs.Lists.{keep, oneAbove}
 use Rattle.rules.specs.Lent.{rowsFrom}
 use Rattle.rules.proofs.Rows.{rows-next, rows-end}
-
--- the larger of the two
-pub above-append : (xs ys : List ℕ) → oneAbove (xs ++ ys) ≡ max (oneAbove xs) (oneAbove ys)
-unfolding oneAbove
-above-append [] ys = omega arith
-above-append (x ∷ xs) ys = omega (arith, above-append xs ys)
 
 -- at row i, with v so far, v and what the rows that are left give are what all give
 pub record Risen {A : Type 0} (p : A → Bool) (number : A → ℕ) (f : ℕ → A) (n i v : ℕ) : Type 0 where

@@ -19,7 +19,7 @@ use Rattle.rules.specs.Pick.{l0SizesOf, oldest, takesRows}
 use Rattle.rules.proofs.Rows.{length-rowsFrom, rowsFrom-append, rows-are, map-rowsFrom}
 use Rattle.size_tiered_compaction.specs.Asked.{rowIn}
 use Rattle.size_tiered_compaction.specs.Pick.{TreeIn, viewsIn}
-use Rattle.size_tiered_compaction.proofs.Appended.{all-append}
+use Rattle.rules.proofs.Appended.{all-append}
 
 -- the rows from row k on
 drop-rowsFrom : {A : Type 0} (f : ℕ → A) (n k : ℕ) → k ≤ n → drop k (rowsFrom f 0 n) ≡ rowsFrom f k (n - k)

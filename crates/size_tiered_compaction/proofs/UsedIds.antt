@@ -12,7 +12,7 @@ use Rattle.rules.specs.Lists.{any}
 use Rattle.rules.specs.Tables.{SourceId, sortedRun, sstView, sameId, among}
 use Rattle.rules.specs.Lent.{rowsFrom}
 use Rattle.rules.proofs.Rows.{rowsFrom-append, rowsFrom-same}
-use Rattle.size_tiered_compaction.proofs.Appended.{any-append}
+use Rattle.rules.proofs.Appended.{any-append}
 use Rattle.size_tiered_compaction.specs.Conflict.{Key, sameKey, keyOf, keyAt, keysOf, holds, usedIn, Added}
 
 -- ---- keys of ids
