@@ -1,4 +1,5 @@
-// slatedb's size-tiered planner over rows of lent tables: used ids, holding back, chains, windows.
+// slatedb's size-tiered planner over rows of lent tables: used ids, holding back, chains, windows,
+// picks, passes.
 pub mod ask;
 pub mod backpressure;
 pub mod conflict;
