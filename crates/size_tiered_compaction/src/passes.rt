@@ -1,4 +1,4 @@
-// The passes of a planning call: slatedb's propose, from the second loop on.
+// The passes of a planning call: the round-robin loop of slatedb's propose, once the trees are in order.
 ghost use mathlib.Core.List.{List};
 ghost use Prim.Native.Nat.{ℕ, _+_, _*_, _<_, _≤_};
 ghost use lib.ListN.{length};
