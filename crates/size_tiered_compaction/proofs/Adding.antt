@@ -51,6 +51,7 @@ pick-added l0Ids runIds {n = n} {p = p} {d = d} {mark = mark} {from = from} {cou
       ∙ ap (λ (ks : List Key). ks ++ (keyOf p (sortedRun d) ∷ [])) (a .rows)
       ∙ rw (map-append (keyOf p) (specOf l0Ids runIds p d mark from count .sources) (sortedRun d ∷ []), append-assoc);
   rows = g .rows l0Ids runIds;
+  within = g .within;
   usedKept = e .kept ∙ a .kept;
   picksKept = g .kept;
 }

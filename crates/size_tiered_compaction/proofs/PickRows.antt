@@ -1,16 +1,26 @@
 -- The rows of `picks`: five stores write one more.
-use Prim.Native.Nat.{ℕ, suc, _+_, _*_, _<_}
+use Prim.Native.Nat.{ℕ, suc, _+_, _*_, _≤_, _<_}
 use mathlib.Core.Path.{_≡_, sym, ap, ap₂, _∙_}
 use mathlib.Core.List.{List, [], _∷_, _++_}
-use native.Mathlib.Nat.{zero-add, add-zero}
+use mathlib.Core.Bool.{Bool, true, false, cond}
+use mathlib.Core.Logic.{inl, inr}
+use native.Mathlib.Nat.{zero-add, add-zero, eq-or-lt-of-le, le-of-suc-le-suc}
+use native.Mathlib.Numerals.{add-one}
 use native.Mathlib.Omega.{arith}
+use lib.Dec.{eqb}
 use lib.ListN.{length, take, drop, getD, set, length-set, length-append, List·getD-append}
 use lib.Seq.{sets-eq, length-take-le, getD-append-add, getD-take}
 use Rattle.rules.specs.Lent.{rowsFrom}
+use Rattle.rules.specs.Bounds.{maxL0, maxRuns}
 use Rattle.rules.specs.Pick.{Spec}
 use Rattle.rules.proofs.Rows.{rowsFrom-append, rowsFrom-same}
 use Rattle.size_tiered_compaction.specs.Asked.{specAt, picksOf}
-use Rattle.size_tiered_compaction.specs.Ask.{specOf, PickPut}
+use Rattle.size_tiered_compaction.specs.Ask.{specOf, PicksWithin, PickPut}
+
+-- a place fits u32
+pub place-small : (b : Bool) {x : ℕ} → x ≤ cond b maxRuns maxL0 → x ≤ 512
+place-small true h = h
+place-small false h = h
 
 module _ (s : List ℕ) (m p d mark from count : ℕ) (fits : 5 * m + 4 < length s) where
   abbrev row : List ℕ
@@ -55,9 +65,18 @@ module _ (s : List ℕ) (m p d mark from count : ℕ) (fits : 5 * m + 4 < length
         let zeroth : getD after (5 * m) 0 ≡ p = rw add-zero at (new 0 (omega arith)) in
         rw (zeroth, new 1 (omega arith), new 2 (omega arith), new 3 (omega arith), new 4 (omega arith))
 
-  pub pick-put : PickPut s m p d mark from count after
+  within : from + count ≤ cond (eqb mark 1) maxRuns maxL0 → PicksWithin s m → PicksWithin after (m + 1)
+  within h w = record {
+    at = λ k l. elim (eq-or-lt-of-le (le-of-suc-le-suc (rw add-one at l))) [
+      | inl e ↦ rw (e, new 2 (omega arith), new 3 (omega arith), new 4 (omega arith)) h
+      | inr g ↦ rw (below (5 * k + 2) (omega arith), below (5 * k + 3) (omega arith), below (5 * k + 4) (omega arith)) (w .at k g)
+    ];
+  }
+
+  pub pick-put : from + count ≤ cond (eqb mark 1) maxRuns maxL0 → PickPut s m p d mark from count after
   unfolding picksOf rowsFrom
-  pick-put = record {
+  pick-put h = record {
+    within = within h;
     rows = λ l0Ids runIds.
         rowsFrom-append (specAt after l0Ids runIds) 0 m 1
         ∙ ap₂ _++_ (rowsFrom-same (specAt after l0Ids runIds) (specAt s l0Ids runIds) 0 0 m (λ k g. kept l0Ids runIds (0 + k) (omega arith)))

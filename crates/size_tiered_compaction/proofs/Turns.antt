@@ -3,7 +3,7 @@ use Prim.Native.Nat.{ℕ, zero, suc, _+_, _-_, _*_, _≤_, _<_}
 use mathlib.Core.Path.{_≡_, refl, sym, ap, _∙_}
 use mathlib.Core.List.{List, [], _∷_}
 use mathlib.Core.Logic.{_⊎_, ⊎-elim}
-use native.Mathlib.Nat.{sub-zero}
+use native.Mathlib.Nat.{sub-zero, not-suc-le-zero}
 use native.Mathlib.Numerals.{add-one}
 use native.Mathlib.Omega.{arith}
 use borrow.Author.Tests.{eq-eqb, ne-eqb}
@@ -15,7 +15,7 @@ use Rattle.rules.specs.Plan.{State, ask, pass, Plan, passesFrom}
 use Rattle.rules.proofs.Rows.{length-rowsFrom}
 use Rattle.size_tiered_compaction.specs.declared.ask.Asked.{Asked}
 use Rattle.size_tiered_compaction.specs.Asked.{AskedAt, specAt, picksOf, stateIn}
-use Rattle.size_tiered_compaction.specs.Ask.{Kept, Step}
+use Rattle.size_tiered_compaction.specs.Ask.{PicksWithin, Kept, Step}
 use Rattle.size_tiered_compaction.specs.Passes.{AskedAll, Plans}
 
 module _ (lim : ℕ → ℕ) (o : Options) where
@@ -69,6 +69,7 @@ pub record Passing (lim : ℕ → ℕ) (o : Options) (asked l0Ids l0Sizes runIds
   pub room : taken + 65 * left ≤ taken₀ + 65 * left₀
   pub slots : made + left ≡ made₀ + left₀
   pub fewer : left ≤ left₀
+  pub placed : PicksWithin picks₀ made₀ → PicksWithin picks made
   pub goes : (ts : List Tree) → AskedAll asked l0Ids l0Sizes runIds runSizes count ts → pass lim o ts (stateIn used₀ taken₀ left₀ next₀ picks₀ made₀ l0Ids runIds) ≡ pass lim o (drop i ts) (stateIn used taken left next picks made l0Ids runIds)
 
 -- `passes` passes that picked something are over
@@ -78,6 +79,7 @@ pub record Planning (lim : ℕ → ℕ) (o : Options) (asked l0Ids l0Sizes runId
   pub room : taken + 65 * left ≤ n + 65 * slots
   pub held : made + left ≡ slots
   pub turns : passes + left ≤ slots
+  pub placed : PicksWithin picks made
   pub goes : (ts : List Tree) → AskedAll asked l0Ids l0Sizes runIds runSizes count ts → passesFrom lim o ts slots 0 (stateIn used₀ n slots fresh picks₀ 0 l0Ids runIds) ≡ passesFrom lim o ts (slots - passes) passes (stateIn used taken left next picks made l0Ids runIds)
 
 noTree : Tree
@@ -90,11 +92,11 @@ noTree = record {
 
 module _ {lim : ℕ → ℕ} {o : Options} {asked l0Ids l0Sizes runIds runSizes : List ℕ} {count : ℕ} where
   pub pass-starts : {used picks : List ℕ} {left taken next made : ℕ} → Passing lim o asked l0Ids l0Sizes runIds runSizes count used picks left taken next made used picks left taken next made 0
-  pass-starts = record { usedKept = refl; picksKept = refl; within = omega arith; room = omega arith; slots = refl; fewer = omega arith; goes = λ ts a. refl }
+  pass-starts = record { usedKept = refl; picksKept = refl; within = omega arith; room = omega arith; slots = refl; fewer = omega arith; placed = λ w. w; goes = λ ts a. refl }
 
   module _ {used₀ picks₀ : List ℕ} {left₀ taken₀ next₀ made₀ : ℕ} {used picks : List ℕ} {left taken next made i : ℕ} (p : Passing lim o asked l0Ids l0Sizes runIds runSizes count used₀ picks₀ left₀ taken₀ next₀ made₀ used picks left taken next made i) where
     -- tree i was asked
-    pub pass-next : i < count → (left ≡ 0 → ⊥) → {used′ picks′ : List ℕ} {x : Asked} → Kept used taken picks used′ x picks′ → ((t : Tree) → AskedAt asked l0Ids l0Sizes runIds runSizes i t → Step (ask lim o t) used taken next picks made l0Ids runIds used′ x picks′) → Passing lim o asked l0Ids l0Sizes runIds runSizes count used₀ picks₀ left₀ taken₀ next₀ made₀ used′ picks′ (left - x .given) (x .n) (x .fresh) (made + x .given) (i + 1)
+    pub pass-next : i < count → (left ≡ 0 → ⊥) → {used′ picks′ : List ℕ} {x : Asked} → Kept used taken picks made used′ x picks′ → ((t : Tree) → AskedAt asked l0Ids l0Sizes runIds runSizes i t → Step (ask lim o t) used taken next picks made l0Ids runIds used′ x picks′) → Passing lim o asked l0Ids l0Sizes runIds runSizes count used₀ picks₀ left₀ taken₀ next₀ made₀ used′ picks′ (left - x .given) (x .n) (x .fresh) (made + x .given) (i + 1)
     pass-next h e k s = record {
       usedKept = k .usedKept ∙ p .usedKept;
       picksKept = k .picksKept ∙ p .picksKept;
@@ -102,6 +104,7 @@ module _ {lim : ℕ → ℕ} {o : Options} {asked l0Ids l0Sizes runIds runSizes 
       room = omega (arith, k .once, k .grown, p .room);
       slots = omega (arith, k .once, p .slots);
       fewer = omega (arith, p .fewer);
+      placed = λ w. k .within (p .placed w);
       goes = λ ts a.
           p .goes ts a
           ∙ pass-asks lim o ts i noTree (stateIn used taken left next picks made l0Ids runIds) (omega (arith, a .counted)) e
@@ -117,7 +120,7 @@ module _ {lim : ℕ → ℕ} {o : Options} {asked l0Ids l0Sizes runIds runSizes 
 
   module _ {slots n fresh : ℕ} {used₀ picks₀ : List ℕ} where
     pub planning-starts : Planning lim o asked l0Ids l0Sizes runIds runSizes count slots n fresh used₀ picks₀ used₀ picks₀ slots n fresh 0 0
-    planning-starts = record { usedKept = refl; picksKept = refl; room = omega arith; held = omega arith; turns = omega arith; goes = λ ts a. rw sub-zero }
+    planning-starts = record { usedKept = refl; picksKept = refl; room = omega arith; held = omega arith; turns = omega arith; placed = record { at = λ k h. absurd (not-suc-le-zero h) }; goes = λ ts a. rw sub-zero }
 
     module _ {used picks : List ℕ} {left taken next made passes : ℕ} (p : Planning lim o asked l0Ids l0Sizes runIds runSizes count slots n fresh used₀ picks₀ used picks left taken next made passes) {used′ picks′ : List ℕ} {left′ taken′ next′ made′ i : ℕ} (q : Passing lim o asked l0Ids l0Sizes runIds runSizes count used picks left taken next made used′ picks′ left′ taken′ next′ made′ i) where
       -- "Every slot has room for a pick"
@@ -136,6 +139,7 @@ module _ {lim : ℕ → ℕ} {o : Options} {asked l0Ids l0Sizes runIds runSizes 
               room = omega (arith, q .room, p .room);
               held = omega (arith, q .slots, p .held);
               turns = omega (arith, q .slots, q .fewer, p .turns);
+              placed = q .placed (p .placed);
               goes = λ ts a.
                   p .goes ts a
                   ∙ next-pass lim o ts passes (stateIn used taken left next picks made l0Ids runIds) (stateIn used′ taken′ left′ next′ picks′ made′ l0Ids runIds) (pass-over q w ts a) (slots - passes) (omega (arith, q .slots, q .fewer, p .turns))

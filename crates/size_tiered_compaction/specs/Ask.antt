@@ -32,15 +32,21 @@ specOf l0Ids runIds prefix destination mark from count = record {
   destination = destination;
 }
 
+-- the sources of the first m picks lie within the slices
+pub record PicksWithin (picks : List ℕ) (m : ℕ) : Type 0 where
+  pub at : (k : ℕ) → k < m → getD picks (5 * k + 3) 0 + getD picks (5 * k + 4) 0 ≤ cond (eqb (getD picks (5 * k + 2) 0) 1) maxRuns maxL0
+
 -- one row more, after the first m picks
 pub record PickPut (before : List ℕ) (m prefix destination mark from count : ℕ) (after : List ℕ) : Type 0 where
   pub rows : (l0Ids runIds : List ℕ) → picksOf after l0Ids runIds (m + 1) ≡ picksOf before l0Ids runIds m ++ (specOf l0Ids runIds prefix destination mark from count ∷ [])
+  pub within : PicksWithin before m → PicksWithin after (m + 1)
   pub kept : length after ≡ length before
 
 -- "Specs picked in this call are added.": n′ keys and m + 1 picks then
 pub record PickAdded (used : List ℕ) (n : ℕ) (picks : List ℕ) (m : ℕ) (l0Ids runIds : List ℕ) (s : Spec) (used′ : List ℕ) (n′ : ℕ) (picks′ : List ℕ) : Type 0 where
   pub keys : keysOf used′ n′ ≡ keysOf used n ++ map (keyOf (s .prefix)) (specUses s)
   pub rows : picksOf picks′ l0Ids runIds (m + 1) ≡ picksOf picks l0Ids runIds m ++ (s ∷ [])
+  pub within : PicksWithin picks m → PicksWithin picks′ (m + 1)
   pub usedKept : length used′ ≡ length used
   pub picksKept : length picks′ ≡ length picks
 
@@ -88,10 +94,11 @@ pub record PickedAsked (lim : ℕ → ℕ) (o : Options) (used : List ℕ) (n fr
   pub is : (t : Tree) → AskedAt asked l0Ids l0Sizes runIds runSizes k t → pickIn (getD asked (5 * k) 0) fresh l0Ids runIds p ≡ pick lim o (usedIn (keysOf used n) (getD asked (5 * k) 0)) fresh t
 
 -- the tables keep their lengths, and a pick uses its 64 sources and the destination at most
-pub record Kept (used : List ℕ) (n : ℕ) (picks used′ : List ℕ) (a : Asked) (picks′ : List ℕ) : Type 0 where
+pub record Kept (used : List ℕ) (n : ℕ) (picks : List ℕ) (m : ℕ) (used′ : List ℕ) (a : Asked) (picks′ : List ℕ) : Type 0 where
   pub usedKept : length used′ ≡ length used
   pub picksKept : length picks′ ≡ length picks
   pub once : a .given ≤ 1
+  pub within : PicksWithin picks m → PicksWithin picks′ (m + a .given)
   pub grown : a .n ≤ n + 65 * a .given
 
 -- what f makes of the call's state, whatever slots are left

@@ -1,7 +1,9 @@
 // A tree is asked once: its pick is added to the used ids and to the picks of the call.
 ghost use mathlib.Core.Path.{_≡_};
 ghost use mathlib.Core.List.{List};
-ghost use Prim.Native.Nat.{ℕ, _+_, _*_, _^_, _<_, _≤_};
+ghost use mathlib.Core.Bool.{cond};
+ghost use Prim.Native.Nat.{ℕ, _+_, _*_, _<_, _≤_};
+ghost use lib.Dec.{eqb};
 ghost use lib.ListN.{length};
 ghost use Rattle.rules.specs.Limit.{limitOf};
 ghost use Rattle.rules.specs.Tables.{Tree, sortedRun, sstView};
@@ -75,7 +77,7 @@ fn put_pick(
     from: usize,
     count: usize,
 )
-    requires { ⌜ (5 * m + 4 < length (now picks)) × (from + count < 2 ^ 32) ⌝ }
+    requires { ⌜ (5 * m + 4 < length (now picks)) × (from + count ≤ cond (eqb mark 1) maxRuns maxL0) ⌝ }
     ensures { λ r. ⌜ PickPut (now (picks .entry)) m prefix destination mark from count (now (picks .exit)) ⌝ }
 {
     let at = 5 * m;
@@ -98,7 +100,7 @@ fn add_rows(
     from: usize,
     count: usize,
 )
-    requires { ⌜ (4 * (n + count + 1) ≤ length (now used)) × (5 * m + 4 < length (now picks)) × (4 * (from + count) ≤ length (now «l0_ids»)) × (from + count < 2 ^ 32) ⌝ }
+    requires { ⌜ (4 * (n + count + 1) ≤ length (now used)) × (5 * m + 4 < length (now picks)) × (4 * (from + count) ≤ length (now «l0_ids»)) × (from + count ≤ maxL0) ⌝ }
     ensures { λ r. ⌜ ((runIds : List ℕ) → PickAdded (now (used .entry)) n (now (picks .entry)) m (now («l0_ids» .entry)) runIds (specOf (now («l0_ids» .entry)) runIds prefix fresh 0 from count) (now (used .exit)) (n + count + 1) (now (picks .exit))) ⌝ }
 {
     use_views(used, n, prefix, l0_ids, from, count);
@@ -118,7 +120,7 @@ fn add_window(
     from: usize,
     count: usize,
 )
-    requires { ⌜ (4 * (n + count + 1) ≤ length (now used)) × (5 * m + 4 < length (now picks)) × (from + count ≤ length (now «run_ids»)) × (from + count < 2 ^ 32) ⌝ }
+    requires { ⌜ (4 * (n + count + 1) ≤ length (now used)) × (5 * m + 4 < length (now picks)) × (from + count ≤ length (now «run_ids»)) × (from + count ≤ maxRuns) ⌝ }
     ensures { λ r. ⌜ ((l0Ids : List ℕ) → PickAdded (now (used .entry)) n (now (picks .entry)) m l0Ids (now («run_ids» .entry)) (specOf l0Ids (now («run_ids» .entry)) prefix destination 1 from count) (now (used .exit)) (n + count + 1) (now (picks .exit))) ⌝ }
 {
     use_runs(used, n, prefix, run_ids, from, count);
@@ -150,7 +152,7 @@ fn add_pick(
     run_ids: &[u32],
 ) -> Asked
     requires { ⌜ (4 * (n + 65) ≤ length (now used)) × (5 * m + 4 < length (now picks)) × (4 * maxL0 ≤ length (now «l0_ids»)) × (maxRuns ≤ length (now «run_ids»)) × Within 64 maxL0 maxRuns p ⌝ }
-    ensures { λ r. ⌜ Kept (now (used .entry)) n (now (picks .entry)) (now (used .exit)) r (now (picks .exit)) × Step (withPick (pickIn prefix fresh (now («l0_ids» .entry)) (now («run_ids» .entry)) p)) (now (used .entry)) n fresh (now (picks .entry)) m (now («l0_ids» .entry)) (now («run_ids» .entry)) (now (used .exit)) r (now (picks .exit)) ⌝ }
+    ensures { λ r. ⌜ Kept (now (used .entry)) n (now (picks .entry)) m (now (used .exit)) r (now (picks .exit)) × Step (withPick (pickIn prefix fresh (now («l0_ids» .entry)) (now («run_ids» .entry)) p)) (now (used .entry)) n fresh (now (picks .entry)) m (now («l0_ids» .entry)) (now («run_ids» .entry)) (now (used .exit)) r (now (picks .exit)) ⌝ }
 {
     match p {
         Pick::Nothing => Asked { n, fresh, given: 0 },
@@ -256,7 +258,7 @@ pub fn ask_tree(
     chains: &[usize],
 ) -> Asked
     requires { ⌜ Bounded o × (4 * (n + 65) ≤ length (now used)) × (5 * m + 4 < length (now picks)) × AtCapacity (now «l0_ids») (now «l0_sizes») (now «run_ids») (now «run_sizes») (now chains) × AskedRow (limitOf (o .threshold)) (now asked) (now «l0_sizes») (now «run_sizes») (now chains) k ⌝ }
-    ensures { λ r. ⌜ Kept (now (used .entry)) n (now (picks .entry)) (now (used .exit)) r (now (picks .exit)) × ((t : Tree) → AskedAt (now (asked .entry)) (now («l0_ids» .entry)) (now («l0_sizes» .entry)) (now («run_ids» .entry)) (now («run_sizes» .entry)) k t → Step (ask (limitOf (o .threshold)) o t) (now (used .entry)) n fresh (now (picks .entry)) m (now («l0_ids» .entry)) (now («run_ids» .entry)) (now (used .exit)) r (now (picks .exit))) ⌝ }
+    ensures { λ r. ⌜ Kept (now (used .entry)) n (now (picks .entry)) m (now (used .exit)) r (now (picks .exit)) × ((t : Tree) → AskedAt (now (asked .entry)) (now («l0_ids» .entry)) (now («l0_sizes» .entry)) (now («run_ids» .entry)) (now («run_sizes» .entry)) k t → Step (ask (limitOf (o .threshold)) o t) (now (used .entry)) n fresh (now (picks .entry)) m (now («l0_ids» .entry)) (now («run_ids» .entry)) (now (used .exit)) r (now (picks .exit))) ⌝ }
 {
     let p = pick_asked(
         o,

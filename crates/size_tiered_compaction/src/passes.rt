@@ -1,4 +1,4 @@
-// The passes of a planning call: slatedb's propose, from the second loop on.
+// The passes of a planning call: the round-robin loop of slatedb's propose, once the trees are in order.
 ghost use mathlib.Core.List.{List};
 ghost use Prim.Native.Nat.{ℕ, _+_, _*_, _<_, _≤_};
 ghost use lib.ListN.{length};
@@ -7,7 +7,7 @@ ghost use Rattle.rules.specs.Tables.{Tree};
 ghost use Rattle.rules.specs.Plan.{passesFrom};
 ghost use Rattle.size_tiered_compaction.specs.Asked.{stateIn};
 ghost use Rattle.size_tiered_compaction.specs.Pick.{Bounded};
-ghost use Rattle.size_tiered_compaction.specs.Ask.{AtCapacity, AskedRow};
+ghost use Rattle.size_tiered_compaction.specs.Ask.{AtCapacity, AskedRow, PicksWithin};
 ghost use Rattle.size_tiered_compaction.specs.Passes.{AskedAll, Plans};
 use crate::ask::ask_tree;
 use rules::Options;
@@ -36,7 +36,7 @@ pub fn plan_passes(
     chains: &[usize],
 ) -> Passes
     requires { ⌜ Bounded o × (4 * (n + 65 * slots) ≤ length (now used)) × (5 * slots ≤ length (now picks)) × AtCapacity (now «l0_ids») (now «l0_sizes») (now «run_ids») (now «run_sizes») (now chains) × ((k : ℕ) → k < count → AskedRow (limitOf (o .threshold)) (now asked) (now «l0_sizes») (now «run_sizes») (now chains) k) ⌝ }
-    ensures { λ r. ⌜ ((ts : List Tree) → AskedAll (now (asked .entry)) (now («l0_ids» .entry)) (now («l0_sizes» .entry)) (now («run_ids» .entry)) (now («run_sizes» .entry)) count ts → Plans (passesFrom (limitOf (o .threshold)) o ts slots 0 (stateIn (now (used .entry)) n slots fresh (now (picks .entry)) 0 (now («l0_ids» .entry)) (now («run_ids» .entry)))) (r .specs) (r .passes) (now (picks .exit)) (now («l0_ids» .entry)) (now («run_ids» .entry))) ⌝ }
+    ensures { λ r. ⌜ (r .specs ≤ slots) × PicksWithin (now (picks .exit)) (r .specs) × ((ts : List Tree) → AskedAll (now (asked .entry)) (now («l0_ids» .entry)) (now («l0_sizes» .entry)) (now («run_ids» .entry)) (now («run_sizes» .entry)) count ts → Plans (passesFrom (limitOf (o .threshold)) o ts slots 0 (stateIn (now (used .entry)) n slots fresh (now (picks .entry)) 0 (now («l0_ids» .entry)) (now («run_ids» .entry)))) (r .specs) (r .passes) (now (picks .exit)) (now («l0_ids» .entry)) (now («run_ids» .entry))) ⌝ }
 {
     let mut left = slots;
     let mut taken = n;

@@ -2,6 +2,7 @@
 -- What each pick adds is what `withPick` adds (`step-with`). Assumes nothing.
 use borrow.Author.Needs.{needs}
 use mathlib.Core.Path.{refl}
+use native.Mathlib.Nat.{add-zero}
 use native.Mathlib.Omega.{arith}
 use Rattle.size_tiered_compaction.proofs.Steps.{step-none, step-some}
 use Rattle.size_tiered_compaction.proofs.ask.add_pick.Statement.{statement}
@@ -40,7 +41,7 @@ add-t30 : tie.Need-add-t30
 add-t30 c = record { fits = omega (arith, (rw (c .before .before .before .before .before .before .before .before .p2 .given .1) at ((c .before .before .before .before .before .before .before .before .before .before .before .before .before .before) .pre .4)) .1, (c .before .before .before .before .before .before .before .before .before .before .before .before .before .before) .pre .0, (c .before .before .before .before .before .before .before .before .before .before .before .before .before .before) .good) }
 
 returns : tie.Need-returns
-returns c = (record { usedKept = refl; picksKept = refl; once = omega arith; grown = omega arith }, rw (c .enum-told .given .1) step-none)
+returns c = (record { usedKept = refl; picksKept = refl; within = λ w. rw add-zero w; once = omega arith; grown = omega arith }, rw (c .enum-told .given .1) step-none)
 
 same-length : tie.Need-same-length
 same-length c = search needs
@@ -50,7 +51,7 @@ same-length-2 c = search needs
 
 returns-2 : tie.Need-returns-2
 returns-2 c = let e = c .before .before .before .before .before .add-rows .ensures ((c .before .before .before .before .before .before .before .before .before .before .before .before .before .before .before) .args .run-ids .now) in
-    (record { usedKept = e .usedKept; picksKept = e .picksKept; once = omega arith; grown = omega (arith, (rw (c .before .before .before .before .before .before .before .before .before .p .given .1) at ((c .before .before .before .before .before .before .before .before .before .before .before .before .before .before .before) .pre .4)) .1) }, rw (c .before .before .before .before .before .before .before .before .before .p .given .1, c .next-fresh .ensures) (step-some _ e))
+    (record { usedKept = e .usedKept; picksKept = e .picksKept; within = e .within; once = omega arith; grown = omega (arith, (rw (c .before .before .before .before .before .before .before .before .before .p .given .1) at ((c .before .before .before .before .before .before .before .before .before .before .before .before .before .before .before) .pre .4)) .1) }, rw (c .before .before .before .before .before .before .before .before .before .p .given .1, c .next-fresh .ensures) (step-some _ e))
 
 same-length-3 : tie.Need-same-length-3
 same-length-3 c = search needs
@@ -60,7 +61,7 @@ same-length-4 c = search needs
 
 returns-3 : tie.Need-returns-3
 returns-3 c = let e = c .before .before .before .before .add-window .ensures ((c .before .before .before .before .before .before .before .before .before .before .before .before .before .before) .args .l0-ids .now) in
-    (record { usedKept = e .usedKept; picksKept = e .picksKept; once = omega arith; grown = omega (arith, (rw (c .before .before .before .before .before .before .before .before .p2 .given .1) at ((c .before .before .before .before .before .before .before .before .before .before .before .before .before .before) .pre .4)) .1) }, rw (c .before .before .before .before .before .before .before .before .p2 .given .1) (step-some _ e))
+    (record { usedKept = e .usedKept; picksKept = e .picksKept; within = e .within; once = omega arith; grown = omega (arith, (rw (c .before .before .before .before .before .before .before .before .p2 .given .1) at ((c .before .before .before .before .before .before .before .before .before .before .before .before .before .before) .pre .4)) .1) }, rw (c .before .before .before .before .before .before .before .before .p2 .given .1) (step-some _ e))
 
 pub add-pick-spec : {M : Type 1} → statement M
 add-pick-spec =

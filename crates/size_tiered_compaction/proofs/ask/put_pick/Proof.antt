@@ -2,8 +2,9 @@
 -- The five stores write row m (`pick-put`). Assumes nothing.
 use borrow.Author.Needs.{needs}
 use native.Mathlib.Omega.{arith}
+use lib.Dec.{eqb}
 use lib.ListN.{length-set}
-use Rattle.size_tiered_compaction.proofs.PickRows.{pick-put}
+use Rattle.size_tiered_compaction.proofs.PickRows.{place-small, pick-put}
 use Rattle.size_tiered_compaction.proofs.ask.put_pick.Statement.{statement}
 use Rattle.size_tiered_compaction.proofs.ask.put_pick.Tie as tie
 
@@ -35,7 +36,7 @@ slice-write-picks-3 : tie.Need-slice-write-picks-3
 slice-write-picks-3 c = simp length-set (omega arith)
 
 cast-picks : tie.Need-cast-picks
-cast-picks c = search needs
+cast-picks c = omega (arith, place-small (eqb (c .args .mark) 1) (c .pre .1))
 
 add-picks-3 : tie.Need-add-picks-3
 add-picks-3 c = search needs
@@ -47,7 +48,7 @@ slice-write-picks-4 : tie.Need-slice-write-picks-4
 slice-write-picks-4 c = simp length-set (omega arith)
 
 cast-picks-2 : tie.Need-cast-picks-2
-cast-picks-2 c = search needs
+cast-picks-2 c = omega (arith, place-small (eqb (c .args .mark) 1) (c .pre .1))
 
 add-picks-4 : tie.Need-add-picks-4
 add-picks-4 c = search needs
@@ -62,7 +63,7 @@ same-length : tie.Need-same-length
 same-length c = simp length-set
 
 returns : tie.Need-returns
-returns c = pick-put ((c) .args .picks .now) ((c) .args .m) _ _ _ _ _ ((c) .pre .0)
+returns c = pick-put (c .args .picks .now) (c .args .m) _ _ _ _ _ (c .pre .0) (c .pre .1)
 
 pub put-pick-spec : {M : Type 1} → statement M
 put-pick-spec =

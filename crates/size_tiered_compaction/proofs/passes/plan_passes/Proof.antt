@@ -70,7 +70,10 @@ same-length-2 : tie.Need-same-length-2 Inv-trees μ-trees Inv-planning μ-planni
 same-length-2 c = c .before .before .trees .inv .picksKept ∙ c .before .before .before .planning .inv .picksKept
 
 returns : tie.Need-returns Inv-trees μ-trees Inv-planning μ-planning
-returns c = planning-ends (c .before .before .before .planning .inv) (c .before .before .trees .inv) (⊎-elim (λ w. inl (w .left)) (λ w. inr (w .1 .taken)) (c .before .trees-test .came)) (c .if2 .taken)
+returns c =
+    let p = c .before .before .before .planning .inv in
+    let q = c .before .before .trees .inv in
+    (omega (arith, q .slots, p .held), q .placed (p .placed), planning-ends p q (⊎-elim (λ w. inl (w .left)) (λ w. inr (w .1 .taken)) (c .before .trees-test .came)) (c .if2 .taken))
 
 pub plan-passes-spec : {M : Type 1} → statement M
 plan-passes-spec =
