@@ -1,32 +1,5 @@
--- Laws that the proofs of the planner cite.
-pub mod Appended
-pub mod UsedIds
-pub mod Chains
-pub mod Filling
-pub mod ChainTable
-pub mod HoldingBack
-pub mod Greatest
-pub mod Beginnings
-pub mod LeastRun
-pub mod Clamped
+-- Laws that the proofs of the calls cite.
 pub mod Consecutive
 pub mod Lowest
 pub mod OneList
 pub mod Validated
-pub mod SizeSums
-pub mod Counting
-pub mod JobRows
-pub mod Largest
-pub mod FirstFresh
-pub mod JobKeys
-pub mod Ordering
-pub mod AskedRows
-pub mod SizesLeft
-pub mod OldestRows
-pub mod Parts
-pub mod OnePick
-pub mod Adding
-pub mod PickRows
-pub mod Steps
-pub mod AskedTrees
-pub mod Turns

@@ -1,0 +1,6 @@
+-- Laws that the proofs of the passes cite.
+pub mod Adding
+pub mod PickRows
+pub mod Steps
+pub mod AskedTrees
+pub mod Turns
