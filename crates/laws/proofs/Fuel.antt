@@ -56,7 +56,7 @@ module _ (lim : ℕ → ℕ) (o : Options) where
   -- ---- passes
 
   -- slots and specs together stay as many, and specs grow: each pick takes a slot
-  abbrev Spends : State → State → Type 0
+  abbrev pub Spends : State → State → Type 0
   Spends st next = (next .slots + length (next .specs) ≡ st .slots + length (st .specs)) × (length (st .specs) ≤ length (next .specs))
 
   -- one tree asked
@@ -66,7 +66,7 @@ module _ (lim : ℕ → ℕ) (o : Options) where
       let l = length-append (st .specs) (p .spec ∷ []) in (omega arith, omega arith)
 
   -- all trees asked
-  pass-spends : (ts : List Tree) (st : State) → Spends st (pass lim o ts st)
+  pub pass-spends : (ts : List Tree) (st : State) → Spends st (pass lim o ts st)
   unfolding pass ask
   pass-spends [] st = omega arith
   pass-spends (t ∷ ts) st = go (eqb (st .slots) 0) refl (pass-spends ts (ask lim o t st))

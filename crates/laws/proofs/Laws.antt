@@ -6,7 +6,8 @@ use Rattle.laws.proofs.Fuel.{fuel}
 use Rattle.laws.proofs.Disjoint.{disjoint}
 use Rattle.laws.proofs.Shapes.{shapes}
 use Rattle.laws.proofs.NamesOnce.{names-once}
-use Rattle.laws.proofs.PlanCall.{demand3-call, proposed}
+use Rattle.laws.proofs.PlanFits.{plan-fits, plan-fits-lent}
+use Rattle.laws.proofs.PlanCall.{demand3-call, proposed, has-places}
 
 pub laws : Laws
 laws = record {
@@ -18,4 +19,7 @@ laws = record {
   disjoint = disjoint;
   shapes = shapes;
   namesOnce = names-once;
+  planFits = plan-fits;
+  planFitsLent = plan-fits-lent;
+  planHasPlaces = has-places;
 }

@@ -14,6 +14,8 @@ pub mod Fuel
 pub mod Disjoint
 pub mod Shapes
 pub mod Sources
+pub mod Sums
+pub mod PlanFits
 pub mod Rising
 pub mod NamesOnce
 pub mod PlanCall

@@ -20,6 +20,7 @@ use Rattle.laws.specs.Demand3.{firstIsRow, fromRows}
 use Rattle.laws.specs.Disjoint.{sharing}
 use Rattle.laws.specs.Shapes.{OfRows, OfRuns}
 use Rattle.laws.specs.NamesOnce.{RowsOnce, NamesOnce}
+use Rattle.laws.proofs.Sums.{total-le, total-less, total-ones}
 use Rattle.laws.proofs.Deal.{of}
 use Rattle.laws.proofs.Windows.{below-mem, last-mem}
 use Rattle.laws.proofs.Picks.{a-row, rows-first}
@@ -32,25 +33,6 @@ use Rattle.laws.proofs.Shapes.{shapes}
 use Rattle.laws.proofs.Sources.{plan-apart, own-sources, plan-sources}
 
 -- ---- there are at most as many specs of step 1 as trees
-
--- sums of larger numbers are larger
-total-le : (g h : Tree → ℕ) → ((t : Tree) → g t ≤ h t) → (ts : List Tree) → total (map g ts) ≤ total (map h ts)
-unfolding total
-total-le g h a [] = omega arith
-total-le g h a (t ∷ ts) = omega (arith, a t, total-le g h a ts)
-
--- and truly so where one of them is
-total-lt : (g h : Tree → ℕ) → ((t : Tree) → g t ≤ h t) → {t : Tree} {ts : List Tree} → List·Memᴰ t ts → g t < h t
-    → total (map g ts) < total (map h ts)
-unfolding total
-total-lt g h a {t} (List·Memᴰ·head {x = c} {xs} e) l = let k : g c < h c = rw (← e) l in omega (arith, total-le g h a xs)
-total-lt g h a (List·Memᴰ·tail {x = c} m) l = omega (arith, a c, total-lt g h a m l)
-
--- of numbers up to 1 the sum is at most how many there are
-total-ones : (g : Tree → ℕ) (ts : List Tree) → ((t : Tree) → List·Memᴰ t ts → g t ≤ 1) → total (map g ts) ≤ length ts
-unfolding total
-total-ones g [] h = omega arith
-total-ones g (t ∷ ts) h = omega (arith, h t (List·Memᴰ·head refl), total-ones g ts (λ c m. h c (List·Memᴰ·tail m)))
 
 -- the specs of step 1 that tree t gets
 abbrev rowSpecsOf : List Spec → Tree → ℕ
@@ -81,7 +63,7 @@ rows-by-tree ts (s ∷ ss) h = go (fromRows s) refl (rows-by-tree ts ss (λ r m.
     go true e ih =
         let x = h s (List·Memᴰ·head refl) in
         let mine : rowSpecsOf ss (x .0) < rowSpecsOf (s ∷ ss) (x .0) = rw (eq-eqb (s .prefix) (x .0 .prefix) (x .2), e) (omega arith) in
-        omega (arith, total-lt (rowSpecsOf ss) (rowSpecsOf (s ∷ ss)) (rows-grow s ss) (x .1) mine)
+        omega (arith, total-less 1 (rowSpecsOf ss) (rowSpecsOf (s ∷ ss)) (rows-grow s ss) (x .1) (omega arith))
 
 -- ---- all together
 

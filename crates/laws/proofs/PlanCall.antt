@@ -13,17 +13,20 @@ use Rattle.rules.specs.Tables.{sameUlid}
 use Rattle.rules.specs.Lent.{LentTrees, LentJobs, treesOf, jobsOf, l0Of, runsOf}
 use Rattle.rules.specs.Bounds.{maxConcurrent, treesOutside, jobsOutside, treesAtCapacity, firstIsRoot, fallingIds, goodMarks, goodTrees, treesMisshapen, jobsMisshapen}
 use Rattle.rules.specs.Limit.{limitOf}
-use Rattle.rules.specs.Planning.{LentPlan, badOptions, planRefusal}
+use Rattle.rules.specs.Plan.{freeSlots}
+use Rattle.rules.specs.Planning.{LentPlan, badOptions, sizesOver, planTooSmall, planRefusal}
 use Rattle.rules.specs.Calls.{planCall}
 use Rattle.rules.proofs.Packed.{length-treesOf}
 use Rattle.rules.proofs.Lookups.{and-left, and-right, or-left}
 use Rattle.laws.specs.Demand3.{Given, Demand3}
 use Rattle.laws.specs.PlanCall.{Accepted, Demand3Call, Proposed}
 use Rattle.laws.specs.NamesOnce.{RowsOnce}
+use Rattle.laws.specs.PlanFits.{PlanHasPlaces}
 use Rattle.laws.proofs.Demand3.{demand3}
 use Rattle.laws.proofs.Disjoint.{disjoint}
 use Rattle.laws.proofs.Shapes.{shapes}
 use Rattle.laws.proofs.NamesOnce.{names-once}
+use Rattle.laws.proofs.PlanFits.{plan-has-places}
 
 -- a check that is passed, and those after it
 passed : (n : ℕ) (b : Bool) (later : ℕ) → (suc n given b else later) ≡ 0 → (b ≡ false) × (later ≡ 0)
@@ -71,6 +74,15 @@ module _ (o : Options) (t : LentTrees) (j : LentJobs) (p : LentPlan) where
       let h₂ = passed 1 (treesMisshapen t || jobsMisshapen j) _ h₁ in
       let bounds = good-bounds o (passed 2 (badOptions o) _ (h₂ .1) .0) in
       (rows-once t (or-left (treesMisshapen t) (jobsMisshapen j) (h₂ .0)), bounds .0, bounds .1)
+
+  -- and a plan with places enough
+  pub has-places : planRefusal o t j p ≡ 0 → PlanHasPlaces (limitOf (o .threshold)) o t j p
+  unfolding planRefusal
+  has-places h =
+      let h₁ = passed 0 (treesOutside t || jobsOutside j || ltb maxConcurrent (o .concurrent)) _ h .1 in
+      let h₂ = passed 1 (treesMisshapen t || jobsMisshapen j) _ h₁ .1 in
+      let h₄ = passed 3 (sizesOver (treesOf t)) _ (passed 2 (badOptions o) _ h₂ .1) .1 in
+      plan-has-places (limitOf (o .threshold)) o t j p (passed 4 (planTooSmall (freeSlots o (jobsOf j)) t p) 0 h₄ .0)
 
   -- what an accepted call proposes
   pub proposed : planRefusal o t j p ≡ 0 → Proposed o t j

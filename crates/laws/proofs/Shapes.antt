@@ -29,13 +29,13 @@ use Rattle.laws.proofs.Disjoint.{disjoint}
 -- ---- runs one after another
 
 -- w is a part of ids
-record Part (w ids : List ℕ) : Type 0 where
-  before : List ℕ
-  after : List ℕ
-  place : ids ≡ before ++ (w ++ after)
+pub record Part (w ids : List ℕ) : Type 0 where
+  pub before : List ℕ
+  pub after : List ℕ
+  pub place : ids ≡ before ++ (w ++ after)
 
 -- a window is
-window-part : (lim : ℕ → ℕ) (least most : ℕ) (u : SourceId → Bool) (ids sizes : List ℕ)
+pub window-part : (lim : ℕ → ℕ) (least most : ℕ) (u : SourceId → Bool) (ids sizes : List ℕ)
     → Part (window lim least most u ids sizes) ids
 unfolding window
 window-part lim least most u [] sizes = record { before = []; after = []; place = refl }
@@ -47,7 +47,7 @@ window-part lim least most u (i ∷ ids) sizes = go (greatest (eligible lim leas
     go (suc k) p = record { before = []; after = drop (suc k) (i ∷ ids); place = sym (take-append-drop (suc k) (i ∷ ids)) }
 
 -- what is left when the front is dropped
-drop-part : (k : ℕ) {w ids : List ℕ} → Part w ids → Part (drop k w) ids
+pub drop-part : (k : ℕ) {w ids : List ℕ} → Part w ids → Part (drop k w) ids
 drop-part k {w} p = record {
   before = p .before ++ take k w;
   after = p .after;

@@ -144,7 +144,7 @@ free-length u (x ∷ xs) =
 
 module _ (u w : SourceId → Bool) where
   -- what is used more leaves less free
-  free-le : (xs : List SourceId) → free (plus u w) xs ≤ free u xs
+  pub free-le : (xs : List SourceId) → free (plus u w) xs ≤ free u xs
   unfolding free
   free-le [] = omega arith
   free-le (x ∷ xs) = go (u x) (w x) (free-le xs)

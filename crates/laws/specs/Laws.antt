@@ -6,6 +6,7 @@ use lib.ListN.{length}
 use Rattle.rules.specs.declared.Options.{Options}
 use Rattle.rules.specs.Tables.{Tree, Job}
 use Rattle.rules.specs.Lent.{LentTrees, LentJobs}
+use Rattle.rules.specs.Limit.{limitOf}
 use Rattle.rules.specs.Pick.{lastRun}
 use Rattle.rules.specs.Plan.{firstFresh}
 use Rattle.rules.specs.Planning.{LentPlan, planRefusal}
@@ -14,6 +15,7 @@ use Rattle.laws.specs.Fuel.{Fuel}
 use Rattle.laws.specs.Disjoint.{Disjoint}
 use Rattle.laws.specs.Shapes.{Shapes}
 use Rattle.laws.specs.NamesOnce.{NamesOnce}
+use Rattle.laws.specs.PlanFits.{PlanFits, PlanFitsLent, PlanHasPlaces}
 use Rattle.laws.specs.PlanCall.{Accepted, Demand3Call, Proposed}
 
 pub record Laws : Type 0 where
@@ -35,3 +37,9 @@ pub record Laws : Type 0 where
   -- no row is a source twice, and no run a destination
   pub namesOnce : (lim : ℕ → ℕ) (o : Options) → 1 ≤ o .min → o .min ≤ o .max → (ts : List Tree) (js : List Job)
       → NamesOnce lim o ts js
+  -- a plan has at most F specs, and at most as many sources as there are L0 rows and runs
+  pub planFits : (lim : ℕ → ℕ) (o : Options) (ts : List Tree) (js : List Job) → PlanFits lim o ts js
+  pub planFitsLent : (lim : ℕ → ℕ) (o : Options) (t : LentTrees) (j : LentJobs) → PlanFitsLent lim o t j
+  -- so that the lent plan of a call that is not refused has a place for each
+  pub planHasPlaces : (o : Options) (t : LentTrees) (j : LentJobs) (p : LentPlan) → planRefusal o t j p ≡ 0
+      → PlanHasPlaces (limitOf (o .threshold)) o t j p

@@ -6,5 +6,6 @@ pub mod Fuel
 pub mod Disjoint
 pub mod Shapes
 pub mod NamesOnce
+pub mod PlanFits
 pub mod PlanCall
 pub mod Laws
