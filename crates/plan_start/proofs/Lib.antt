@@ -7,3 +7,4 @@ pub mod FirstFresh
 pub mod JobKeys
 pub mod Ordering
 pub mod AskedRows
+pub mod ChainParts

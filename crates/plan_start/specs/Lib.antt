@@ -2,3 +2,4 @@
 pub mod Order
 pub mod Sizes
 pub mod UsedByJobs
+pub mod ChainTable

@@ -12,3 +12,4 @@ pub mod Shapes
 pub mod Falls
 pub mod Finds
 pub mod Found
+pub mod TwoTables

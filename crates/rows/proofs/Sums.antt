@@ -1,6 +1,7 @@
 -- A loop that sums rows: what it has and the sum of the rows that are left are the sum of all.
 use Prim.Native.Nat.{ℕ, _+_, _-_, _≤_, _<_}
 use mathlib.Core.Path.{_≡_, ap, _∙_}
+use mathlib.Core.List.{[], _∷_}
 use native.Mathlib.Nat.{zero-add}
 use native.Mathlib.Omega.{arith}
 use Rattle.rules.specs.Lists.{total}
@@ -32,3 +33,8 @@ part-within f i n h =
     let all : n ≡ i + (n - i) = omega arith in
     let split : total (rowsFrom f 0 n) ≡ total (rowsFrom f 0 i) + total (rowsFrom f i (n - i)) = ap (λ (m : ℕ). total (rowsFrom f 0 m)) all ∙ ap total (rowsFrom-append f 0 i (n - i)) ∙ total-append (rowsFrom f 0 i) (rowsFrom f (0 + i) (n - i)) ∙ ap (λ (k : ℕ). total (rowsFrom f 0 i) + total (rowsFrom f k (n - i))) (zero-add i) in
     omega (arith, ap total (rows-next f i n h))
+
+-- a sum with one number more
+pub total-last : (f : ℕ → ℕ) (m : ℕ) → total (rowsFrom f 0 (m + 1)) ≡ total (rowsFrom f 0 m) + f m
+unfolding rowsFrom total
+total-last f m = omega (arith, ap total (rowsFrom-append f 0 m 1), total-append (rowsFrom f 0 m) (f (0 + m) ∷ []), ap f (zero-add m))

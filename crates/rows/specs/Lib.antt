@@ -2,3 +2,4 @@
 pub mod Movers
 pub mod Shape
 pub mod Read
+pub mod Refusals

@@ -8,4 +8,5 @@ pub mod r64;
 pub mod r8;
 pub mod read;
 pub mod shape;
+pub mod tables;
 pub mod trees;
