@@ -27,19 +27,19 @@ module _ {A : Type 0} where
     pub rows : SourcesWritten marks runs views at (map id (rowsFrom f from k)) marks′ runs′ views′
 
   module _ {id : A → SourceId} {f : ℕ → A} {marks runs views : List ℕ} {at from count : ℕ} where
-    pub rows-start : Room (at + count) marks runs views → LayingRows id f marks runs views at from count 0 marks runs views
+    pub laying-starts : Room (at + count) marks runs views → LayingRows id f marks runs views at from count 0 marks runs views
     unfolding rowsFrom
-    rows-start r = record { within = omega arith; rows = sources-none (room-less (omega arith) r) }
+    laying-starts r = record { within = omega arith; rows = sources-none (room-less (omega arith) r) }
 
     module _ {k : ℕ} {marks′ runs′ views′ : List ℕ} (a : LayingRows id f marks runs views at from count k marks′ runs′ views′) where
       -- there is a place for one more
-      pub rows-room : Room (at + count) marks runs views → k < count → Room (at + k + 1) marks′ runs′ views′
-      rows-room r h = room-kept (a .rows) (room-less (omega arith) r)
+      pub laying-room : Room (at + count) marks runs views → k < count → Room (at + k + 1) marks′ runs′ views′
+      laying-room r h = room-kept (a .rows) (room-less (omega arith) r)
 
       -- row from + k is laid
-      pub rows-next : k < count → {marks″ runs″ views″ : List ℕ} → SourcesWritten marks′ runs′ views′ (at + k) (id (f (from + k)) ∷ []) marks″ runs″ views″ → LayingRows id f marks runs views at from count (k + 1) marks″ runs″ views″
+      pub laying-next : k < count → {marks″ runs″ views″ : List ℕ} → SourcesWritten marks′ runs′ views′ (at + k) (id (f (from + k)) ∷ []) marks″ runs″ views″ → LayingRows id f marks runs views at from count (k + 1) marks″ runs″ views″
       unfolding rowsFrom
-      rows-next h e = record {
+      laying-next h e = record {
         within = omega arith;
         rows =
             rw (rowsFrom-append f from k 1, map-append)
@@ -47,14 +47,15 @@ module _ {A : Type 0} where
       }
 
       -- all are laid
-      pub rows-over : count ≤ k → SourcesWritten marks runs views at (map id (rowsFrom f from count)) marks′ runs′ views′
-      rows-over h =
+      pub laying-ends : count ≤ k → SourcesWritten marks runs views at (map id (rowsFrom f from count)) marks′ runs′ views′
+      laying-ends h =
           let all : k ≡ count = omega (arith, a .within) in
           rw all at (a .rows)
 
 -- ---- the sources of all picks
 
 module _ (picks l0Ids runIds : List ℕ) where
+  -- the sources of the picks before pick k
   abbrev sourcesTo : ℕ → List SourceId
   sourcesTo k = specSources (picksOf picks l0Ids runIds k)
 
@@ -63,19 +64,20 @@ module _ (picks l0Ids runIds : List ℕ) where
   unfolding picksOf
   picks-split k n = rw (rowsFrom-append (specAt picks l0Ids runIds) 0 k n, zero-add)
 
-  picks-next : (k : ℕ) → picksOf picks l0Ids runIds (k + 1) ≡ picksOf picks l0Ids runIds k ++ (specAt picks l0Ids runIds k ∷ [])
+  -- the picks up to and with pick k, and their sources
+  one-pick-more : (k : ℕ) → picksOf picks l0Ids runIds (k + 1) ≡ picksOf picks l0Ids runIds k ++ (specAt picks l0Ids runIds k ∷ [])
   unfolding rowsFrom
-  picks-next k = picks-split k 1
+  one-pick-more k = picks-split k 1
 
   sources-next : (k : ℕ) → sourcesTo (k + 1) ≡ sourcesTo k ++ specAt picks l0Ids runIds k .sources
   unfolding concatMap
   sources-next k =
-      ap (λ (ss : List Spec). specSources ss) (picks-next k)
+      ap (λ (ss : List Spec). specSources ss) (one-pick-more k)
       ∙ concatMap-append (λ s. s .sources) (picksOf picks l0Ids runIds k) (specAt picks l0Ids runIds k ∷ [])
       ∙ rw append-nil
 
   -- as many sources as the row says
-  pub length-sources : (k : ℕ) → length (specAt picks l0Ids runIds k .sources) ≡ getD picks (5 * k + 4) 0
+  length-sources : (k : ℕ) → length (specAt picks l0Ids runIds k .sources) ≡ getD picks (5 * k + 4) 0
   length-sources k = many (eqb (getD picks (5 * k + 2) 0) 1) (getD picks (5 * k + 3) 0) (getD picks (5 * k + 4) 0)
     where
       many : (b : Bool) (from count : ℕ) → length (cond b (runsIn runIds from count) (viewsIn l0Ids from count)) ≡ count
@@ -101,9 +103,9 @@ pub record LayingPicks (picks l0Ids runIds : List ℕ) (m : ℕ) (marks runs vie
   pub rows : SourcesWritten marks runs views 0 (specSources (picksOf picks l0Ids runIds k)) marks′ runs′ views′
 
 module _ {picks l0Ids runIds : List ℕ} {m : ℕ} {marks runs views : List ℕ} where
-  pub picks-start : Room (length (specSources (picksOf picks l0Ids runIds m))) marks runs views → LayingPicks picks l0Ids runIds m marks runs views 0 0 marks runs views
+  pub picks-starts : Room (length (specSources (picksOf picks l0Ids runIds m))) marks runs views → LayingPicks picks l0Ids runIds m marks runs views 0 0 marks runs views
   unfolding picksOf rowsFrom concatMap
-  picks-start r = record { within = omega arith; place = refl; rows = sources-none (room-less (omega arith) r) }
+  picks-starts r = record { within = omega arith; place = refl; rows = sources-none (room-less (omega arith) r) }
 
   module _ {at k : ℕ} {marks′ runs′ views′ : List ℕ} (a : LayingPicks picks l0Ids runIds m marks runs views at k marks′ runs′ views′) where
     -- there are places for the sources of pick k
@@ -113,16 +115,16 @@ module _ {picks l0Ids runIds : List ℕ} {m : ℕ} {marks runs views : List ℕ}
         (room-less (omega (arith, a .place, sources-upto picks l0Ids runIds (k + 1) m (omega arith), ap length (sources-next picks l0Ids runIds k), length-append (sourcesTo picks l0Ids runIds k) (specAt picks l0Ids runIds k .sources), length-sources picks l0Ids runIds k)) r)
 
     -- pick k is laid
-    pub picks-more : k < m → {at′ : ℕ} {marks″ runs″ views″ : List ℕ} → at′ ≡ at + getD picks (5 * k + 4) 0 → SourcesWritten marks′ runs′ views′ at (specAt picks l0Ids runIds k .sources) marks″ runs″ views″ → LayingPicks picks l0Ids runIds m marks runs views at′ (k + 1) marks″ runs″ views″
-    picks-more h p e = record {
+    pub picks-next : k < m → {at′ : ℕ} {marks″ runs″ views″ : List ℕ} → at′ ≡ at + getD picks (5 * k + 4) 0 → SourcesWritten marks′ runs′ views′ at (specAt picks l0Ids runIds k .sources) marks″ runs″ views″ → LayingPicks picks l0Ids runIds m marks runs views at′ (k + 1) marks″ runs″ views″
+    picks-next h p e = record {
       within = omega arith;
       place = omega (arith, p, a .place, ap length (sources-next picks l0Ids runIds k), length-append (sourcesTo picks l0Ids runIds k) (specAt picks l0Ids runIds k .sources), length-sources picks l0Ids runIds k);
       rows = rw (sources-next picks l0Ids runIds k) (sources-more (a .rows) (omega (arith, a .place)) e);
     }
 
     -- all are laid
-    pub picks-over : m ≤ k → SourcesLaid marks runs views (specSources (picksOf picks l0Ids runIds m)) marks′ runs′ views′
-    picks-over h =
+    pub picks-ends : m ≤ k → SourcesLaid marks runs views (specSources (picksOf picks l0Ids runIds m)) marks′ runs′ views′
+    picks-ends h =
         let all : k ≡ m = omega (arith, a .within) in
         rw all at (sources-laid (a .rows))
 
@@ -135,9 +137,9 @@ pub record LayingSpecs (picks : List ℕ) (m : ℕ) (specs : List ℕ) (k : ℕ)
   pub rows : (l0Ids runIds : List ℕ) → Written specs 0 (concatMap specWords (picksOf picks l0Ids runIds k)) specs′
 
 module _ {picks : List ℕ} {m : ℕ} {specs : List ℕ} where
-  pub specs-start : LayingSpecs picks m specs 0 specs
+  pub specs-starts : LayingSpecs picks m specs 0 specs
   unfolding picksOf rowsFrom concatMap
-  specs-start = record { within = omega arith; kept = refl; rows = λ l0Ids runIds. written-none specs 0 (omega arith) }
+  specs-starts = record { within = omega arith; kept = refl; rows = λ l0Ids runIds. written-none specs 0 (omega arith) }
 
   module _ {k : ℕ} {specs′ : List ℕ} (a : LayingSpecs picks m specs k specs′) where
     -- spec k, by a store for each of its numbers
@@ -153,14 +155,14 @@ module _ {picks : List ℕ} {m : ℕ} {specs : List ℕ} where
           kept = written-kept put ∙ a .kept;
           rows = λ l0Ids runIds.
               let words : concatMap specWords (picksOf picks l0Ids runIds (k + 1)) ≡ concatMap specWords (picksOf picks l0Ids runIds k) ++ row =
-              ap (concatMap specWords) (picks-next picks l0Ids runIds k)
+              ap (concatMap specWords) (one-pick-more picks l0Ids runIds k)
               ∙ concatMap-append specWords (picksOf picks l0Ids runIds k) (specAt picks l0Ids runIds k ∷ [])
               ∙ ap (λ (n : ℕ). concatMap specWords (picksOf picks l0Ids runIds k) ++ (getD picks (5 * k) 0 ∷ getD picks (5 * k + 1) 0 ∷ n ∷ [])) (length-sources picks l0Ids runIds k) in
               rw words (written-more (a .rows l0Ids runIds) (omega (arith, length-specs picks l0Ids runIds k)) put);
         }
 
     -- all are laid
-    pub specs-over : m ≤ k → (l0Ids runIds : List ℕ) → specs′ ≡ laid 0 (concatMap specWords (picksOf picks l0Ids runIds m)) specs
-    specs-over h l0Ids runIds =
+    pub specs-ends : m ≤ k → (l0Ids runIds : List ℕ) → specs′ ≡ laid 0 (concatMap specWords (picksOf picks l0Ids runIds m)) specs
+    specs-ends h l0Ids runIds =
         let all : k ≡ m = omega (arith, a .within) in
         rw all at (written-laid (a .rows l0Ids runIds))

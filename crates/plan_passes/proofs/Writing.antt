@@ -26,9 +26,11 @@ pub written-row : (s : List ℕ) (at : ℕ) (row : List ℕ) → at + length row
 written-row s at row h = record { room = h; is = sets-eq row s at h }
 
 module _ {s : List ℕ} {at : ℕ} {new s₁ : List ℕ} (e : Written s at new s₁) where
+  -- up to the end of what was written
   front : length (take at s ++ new) ≡ at + length new
   front = omega (arith, length-append (take at s) new, length-take-le at s (omega (arith, e .room)))
 
+  -- the slice keeps its length
   pub written-kept : length s₁ ≡ length s
   written-kept =
       ap length (e .is)
@@ -63,14 +65,16 @@ room-less h r = record {
   ofViews = omega (arith, r .ofViews);
 }
 
-pub view-width : (x : SourceId) → length (viewWords x) ≡ 2
+-- two words a view
+view-width : (x : SourceId) → length (viewWords x) ≡ 2
 view-width (sortedRun r) = refl
 view-width (sstView v) = refl
 
-pub length-views : (ss : List SourceId) → length (concatMap viewWords ss) ≡ 2 * length ss
+length-views : (ss : List SourceId) → length (concatMap viewWords ss) ≡ 2 * length ss
 length-views ss = length-words viewWords 2 view-width ss
 
 module _ {marks runs views : List ℕ} {at : ℕ} where
+  -- nothing yet
   pub sources-none : Room at marks runs views → SourcesWritten marks runs views at [] marks runs views
   unfolding concatMap
   sources-none r = record {
@@ -99,13 +103,15 @@ module _ {marks runs views : List ℕ} {at : ℕ} where
       ofViews = omega (arith, r .ofViews, written-kept (e .ofViews));
     }
 
+    -- more behind them
     pub sources-more : {at₁ : ℕ} {more : List SourceId} {marks₂ runs₂ views₂ : List ℕ} → at₁ ≡ at + length ss → SourcesWritten marks₁ runs₁ views₁ at₁ more marks₂ runs₂ views₂ → SourcesWritten marks runs views at (ss ++ more) marks₂ runs₂ views₂
     sources-more {more = more} p g = record {
-      ofMarks = rw (map-append) (written-more (e .ofMarks) (omega (arith, p, length-map ss markOf)) (g .ofMarks));
-      ofRuns = rw (map-append) (written-more (e .ofRuns) (omega (arith, p, length-map ss runOf)) (g .ofRuns));
+      ofMarks = rw map-append (written-more (e .ofMarks) (omega (arith, p, length-map ss markOf)) (g .ofMarks));
+      ofRuns = rw map-append (written-more (e .ofRuns) (omega (arith, p, length-map ss runOf)) (g .ofRuns));
       ofViews = rw (concatMap-append viewWords ss more) (written-more (e .ofViews) (omega (arith, p, length-views ss)) (g .ofViews));
     }
 
+-- from the front on, as `layPlan` has them
 pub sources-laid : {marks runs views : List ℕ} {ss : List SourceId} {marks₁ runs₁ views₁ : List ℕ} → SourcesWritten marks runs views 0 ss marks₁ runs₁ views₁ → SourcesLaid marks runs views ss marks₁ runs₁ views₁
 sources-laid e = record {
   ofMarks = written-laid (e .ofMarks);

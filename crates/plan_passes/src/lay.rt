@@ -25,14 +25,17 @@ pub fn lay_specs(picks: &[u32], m: usize, plan_specs: &mut [u32])
     while k < m {
         let from = 5 * k;
         let to = 3 * k;
-        plan_specs[to] = picks[from];
-        plan_specs[to + 1] = picks[from + 1];
-        plan_specs[to + 2] = picks[from + 4];
+        let prefix = picks[from];
+        let destination = picks[from + 1];
+        let sources = picks[from + 4];
+        plan_specs[to] = prefix;
+        plan_specs[to + 1] = destination;
+        plan_specs[to + 2] = sources;
         k += 1;
     }
 }
 
-// A run is place `at` of the sources; its view is idle.
+// A run as source `at`. Its view is idle, and zeros.
 fn put_run(
     run: u32,
     at: usize,
@@ -50,7 +53,7 @@ fn put_run(
     plan_views[v + 1] = 0;
 }
 
-// A view is place `at` of the sources; its run is idle.
+// A view as source `at`. Its run is idle, and zero.
 fn put_view(
     high: u64,
     low: u64,
@@ -69,7 +72,7 @@ fn put_view(
     plan_views[v + 1] = low;
 }
 
-// `count` runs, from place `at` on.
+// `count` runs as the sources from `at` on.
 fn lay_runs(
     run_ids: &[u32],
     from: usize,
@@ -89,7 +92,7 @@ fn lay_runs(
     }
 }
 
-// So are the views of `count` L0 rows.
+// The views of `count` L0 rows as the sources from `at` on.
 fn lay_views(
     l0_ids: &[u64],
     from: usize,
@@ -117,7 +120,7 @@ fn lay_views(
     }
 }
 
-// The sources of pick `k`, from place `at` on; the answer is the place behind them.
+// The sources of pick `k`, from source `at` on; the answer is the place behind them.
 fn lay_pick(
     picks: &[u32],
     k: usize,

@@ -4,7 +4,7 @@ use Prim.Native.Nat.{_-_}
 use lib.ListN.{getD}
 use Rattle.rules.specs.Tables.{sortedRun}
 use Rattle.plan_passes.proofs.Writing.{written-kept}
-use Rattle.plan_passes.proofs.LaidPicks.{LayingRows, rows-start, rows-room, rows-next, rows-over}
+use Rattle.plan_passes.proofs.LaidPicks.{LayingRows, laying-starts, laying-room, laying-next, laying-ends}
 use Rattle.plan_passes.proofs.lay.lay_runs.Statement.{statement}
 use Rattle.plan_passes.proofs.lay.lay_runs.Tie as tie
 
@@ -15,7 +15,7 @@ abbrev μ-loop : tie.MeasureT-loop
 μ-loop run-ids from count at plan-marks₀ plan-runs₀ plan-views₀ k₀ plan-marks plan-runs plan-views k = count - k
 
 loop-holds : tie.Need-loop-holds Inv-loop μ-loop
-loop-holds c = rows-start ((c .before .before .before .before) .pre .1)
+loop-holds c = laying-starts ((c .before .before .before .before) .pre .1)
 
 add-put-run : tie.Need-add-put-run Inv-loop μ-loop
 add-put-run c = search needs
@@ -30,7 +30,7 @@ add-put-run-2 : tie.Need-add-put-run-2 Inv-loop μ-loop
 add-put-run-2 c = search needs
 
 put-run-requires : tie.Need-put-run-requires Inv-loop μ-loop
-put-run-requires c κs = rows-room (c .before .before .before .before .before .loop .inv) ((c .before .before .before .before .before .before .before .before .before .before) .pre .1) (c .before .before .before .before .loop-test .taken)
+put-run-requires c κs = laying-room (c .before .before .before .before .before .loop .inv) ((c .before .before .before .before .before .before .before .before .before .before) .pre .1) (c .before .before .before .before .loop-test .taken)
 
 add-k : tie.Need-add-k Inv-loop μ-loop
 add-k c = search needs
@@ -39,7 +39,7 @@ loop-less : tie.Need-loop-less Inv-loop μ-loop
 loop-less c = search needs
 
 loop-again : tie.Need-loop-again Inv-loop μ-loop
-loop-again c = rows-next (c .before .before .before .before .before .before .before .before .before .before .before .before .loop .inv) (c .before .before .before .before .before .before .before .before .before .before .before .loop-test .taken) (c .before .before .before .before .before .before .put-run .ensures)
+loop-again c = laying-next (c .before .before .before .before .before .before .before .before .before .before .before .before .loop .inv) (c .before .before .before .before .before .before .before .before .before .before .before .loop-test .taken) (c .before .before .before .before .before .before .put-run .ensures)
 
 same-length : tie.Need-same-length Inv-loop μ-loop
 same-length c = written-kept (c .before .loop .inv .rows .ofMarks)
@@ -51,7 +51,7 @@ same-length-3 : tie.Need-same-length-3 Inv-loop μ-loop
 same-length-3 c = written-kept (c .before .loop .inv .rows .ofViews)
 
 returns : tie.Need-returns Inv-loop μ-loop
-returns c = rows-over (c .before .loop .inv) (c .loop-test .left)
+returns c = laying-ends (c .before .loop .inv) (c .loop-test .left)
 
 pub lay-runs-spec : {M : Type 1} → statement M
 lay-runs-spec =

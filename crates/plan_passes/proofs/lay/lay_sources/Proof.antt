@@ -4,7 +4,7 @@ use borrow.Author.Needs.{needs}
 use Prim.Native.Nat.{_-_}
 use native.Mathlib.Omega.{arith}
 use Rattle.plan_passes.proofs.Writing.{written-kept}
-use Rattle.plan_passes.proofs.LaidPicks.{LayingPicks, picks-start, picks-room, picks-more, picks-over}
+use Rattle.plan_passes.proofs.LaidPicks.{LayingPicks, picks-starts, picks-room, picks-next, picks-ends}
 use Rattle.plan_passes.proofs.lay.lay_sources.Statement.{statement}
 use Rattle.plan_passes.proofs.lay.lay_sources.Tie as tie
 
@@ -15,7 +15,7 @@ abbrev μ-loop : tie.MeasureT-loop
 μ-loop picks m l0-ids run-ids plan-marks₀ plan-runs₀ plan-views₀ at₀ k₀ plan-marks plan-runs plan-views at k = m - k
 
 loop-holds : tie.Need-loop-holds Inv-loop μ-loop
-loop-holds c = picks-start ((c .before .before .before .before .before .before) .pre .4)
+loop-holds c = picks-starts ((c .before .before .before .before .before .before) .pre .4)
 
 lay-pick-requires : tie.Need-lay-pick-requires Inv-loop μ-loop
 lay-pick-requires c κs = (omega arith, (c .before .before .before .before .before .before .before .before .before .before .before) .pre .1 .at (c .before .before .before .before .loop .k) (c .before .before .before .loop-test .taken), (c .before .before .before .before .before .before .before .before .before .before .before) .pre .2, (c .before .before .before .before .before .before .before .before .before .before .before) .pre .3, picks-room (c .before .before .before .before .loop .inv) ((c .before .before .before .before .before .before .before .before .before .before .before) .pre .4) (c .before .before .before .loop-test .taken))
@@ -27,7 +27,7 @@ loop-less : tie.Need-loop-less Inv-loop μ-loop
 loop-less c = search needs
 
 loop-again : tie.Need-loop-again Inv-loop μ-loop
-loop-again c = picks-more (c .before .before .before .before .before .before .before .before .before .before .before .loop .inv) (c .before .before .before .before .before .before .before .before .before .before .loop-test .taken) (c .before .before .before .before .before .before .lay-pick .ensures .0) (c .before .before .before .before .before .before .lay-pick .ensures .1)
+loop-again c = picks-next (c .before .before .before .before .before .before .before .before .before .before .before .loop .inv) (c .before .before .before .before .before .before .before .before .before .before .loop-test .taken) (c .before .before .before .before .before .before .lay-pick .ensures .0) (c .before .before .before .before .before .before .lay-pick .ensures .1)
 
 same-length : tie.Need-same-length Inv-loop μ-loop
 same-length c = written-kept (c .before .loop .inv .rows .ofMarks)
@@ -39,7 +39,7 @@ same-length-3 : tie.Need-same-length-3 Inv-loop μ-loop
 same-length-3 c = written-kept (c .before .loop .inv .rows .ofViews)
 
 returns : tie.Need-returns Inv-loop μ-loop
-returns c = picks-over (c .before .loop .inv) (c .loop-test .left)
+returns c = picks-ends (c .before .loop .inv) (c .loop-test .left)
 
 pub lay-sources-spec : {M : Type 1} → statement M
 lay-sources-spec =

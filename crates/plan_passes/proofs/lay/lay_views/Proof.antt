@@ -4,7 +4,7 @@ use Prim.Native.Nat.{_-_, _*_}
 use Rattle.rules.specs.Lent.{ulidAt}
 use Rattle.rules.specs.Tables.{sstView}
 use Rattle.plan_passes.proofs.Writing.{written-kept}
-use Rattle.plan_passes.proofs.LaidPicks.{LayingRows, rows-start, rows-room, rows-next, rows-over}
+use Rattle.plan_passes.proofs.LaidPicks.{LayingRows, laying-starts, laying-room, laying-next, laying-ends}
 use Rattle.plan_passes.proofs.lay.lay_views.Statement.{statement}
 use Rattle.plan_passes.proofs.lay.lay_views.Tie as tie
 
@@ -15,7 +15,7 @@ abbrev μ-loop : tie.MeasureT-loop
 μ-loop l0-ids from count at plan-marks₀ plan-runs₀ plan-views₀ k₀ plan-marks plan-runs plan-views k = count - k
 
 loop-holds : tie.Need-loop-holds Inv-loop μ-loop
-loop-holds c = rows-start ((c .before .before .before .before) .pre .1)
+loop-holds c = laying-starts ((c .before .before .before .before) .pre .1)
 
 add-i : tie.Need-add-i Inv-loop μ-loop
 add-i c = search needs
@@ -42,7 +42,7 @@ add-put-view-2 : tie.Need-add-put-view-2 Inv-loop μ-loop
 add-put-view-2 c = search needs
 
 put-view-requires : tie.Need-put-view-requires Inv-loop μ-loop
-put-view-requires c κs = rows-room (c .before .before .before .before .before .before .loop .inv) ((c .before .before .before .before .before .before .before .before .before .before .before) .pre .1) (c .before .before .before .before .before .loop-test .taken)
+put-view-requires c κs = laying-room (c .before .before .before .before .before .before .loop .inv) ((c .before .before .before .before .before .before .before .before .before .before .before) .pre .1) (c .before .before .before .before .before .loop-test .taken)
 
 add-k : tie.Need-add-k Inv-loop μ-loop
 add-k c = search needs
@@ -51,7 +51,7 @@ loop-less : tie.Need-loop-less Inv-loop μ-loop
 loop-less c = search needs
 
 loop-again : tie.Need-loop-again Inv-loop μ-loop
-loop-again c = rows-next (c .before .before .before .before .before .before .before .before .before .before .before .before .before .loop .inv) (c .before .before .before .before .before .before .before .before .before .before .before .before .loop-test .taken) (c .before .before .before .before .before .before .put-view .ensures)
+loop-again c = laying-next (c .before .before .before .before .before .before .before .before .before .before .before .before .before .loop .inv) (c .before .before .before .before .before .before .before .before .before .before .before .before .loop-test .taken) (c .before .before .before .before .before .before .put-view .ensures)
 
 same-length : tie.Need-same-length Inv-loop μ-loop
 same-length c = written-kept (c .before .loop .inv .rows .ofMarks)
@@ -63,7 +63,7 @@ same-length-3 : tie.Need-same-length-3 Inv-loop μ-loop
 same-length-3 c = written-kept (c .before .loop .inv .rows .ofViews)
 
 returns : tie.Need-returns Inv-loop μ-loop
-returns c = rows-over (c .before .loop .inv) (c .loop-test .left)
+returns c = laying-ends (c .before .loop .inv) (c .loop-test .left)
 
 pub lay-views-spec : {M : Type 1} → statement M
 lay-views-spec =
