@@ -4,3 +4,5 @@ pub mod PickRows
 pub mod Steps
 pub mod AskedTrees
 pub mod Turns
+pub mod Writing
+pub mod LaidPicks
