@@ -16,7 +16,7 @@ use Rattle.rows.proofs.Lift.{singles, laid-singles}
 use Rattle.tree_rows.specs.Change.{changedAt, keepRows, keptIn, L0Flags, RunFlags}
 use Rattle.tree_rows.specs.Slices.{RowsOf, KeepRoom, rowsBefore, runsBefore}
 use Rattle.tree_rows.proofs.Standing.{trees-stand, l0-ids-stand, l0-sizes-stand, run-ids-stand, run-sizes-stand, rows-before, runs-before, rows-of, runs-of}
-use Rattle.tree_rows.proofs.OneRow.{before, behind, length-before, row-stood, row-changed, set-behind}
+use Rattle.tree_rows.proofs.OneRow.{apart, set-behind}
 use Rattle.tree_rows.proofs.Flags.{kept-changed, flags-mine}
 use Rattle.tree_rows.proofs.Counts.{kept-many}
 
@@ -138,14 +138,10 @@ module _ {count : ℕ} {trees l0Ids l0Sizes runIds runSizes : List ℕ} {i : ℕ
         → s ≡ set (set trees (3 * i + 1) m) (3 * i + 2) k → s ≡ after .trees
     unfolding layTrees
     kept-trees {m} {k} u v g =
-        let stand = trees-stand t (omega (arith, room .few, e, room .trees, ap length (R .trees))) in
-        let pre = before treeWords 3 (λ x. refl) (treesOf t) (t .count) (t .trees) (sym (length-treesOf t)) stand i there none in
-        let post = behind treeWords 3 (λ x. refl) (treesOf t) (t .count) (t .trees) (sym (length-treesOf t)) stand i there none in
-        let long : length pre ≡ 3 * i = length-before treeWords 3 (λ x. refl) (treesOf t) (t .count) (t .trees) (sym (length-treesOf t)) stand i there none in
-        let stood : trees ≡ pre ++ (treeWords mine ++ post) = R .trees ∙ row-stood treeWords 3 (λ x. refl) (treesOf t) (t .count) (t .trees) (sym (length-treesOf t)) stand i there none in
+        let a = apart treeWords 3 (λ x. refl) (treesOf t) (t .count) (t .trees) (sym (length-treesOf t)) (trees-stand t (omega (arith, room .few, e, room .trees, ap length (R .trees)))) i there none in
         g
-        ∙ ap (λ (s : List ℕ). set (set s (3 * i + 1) m) (3 * i + 2) k) stood
-        ∙ ap (λ (s : List ℕ). set s (3 * i + 2) k) (set-behind pre (treeWords mine ++ post) (3 * i + 1) 1 m (omega arith))
-        ∙ set-behind pre (mine .prefix ∷ m ∷ length (mine .runs) ∷ post) (3 * i + 2) 2 k (omega arith)
-        ∙ ap₂ (λ (a b : ℕ). pre ++ (mine .prefix ∷ a ∷ b ∷ post)) (rows-many u) (runs-many v)
-        ∙ sym (row-changed treeWords 3 (λ x. refl) (treesOf t) (t .count) (t .trees) (sym (length-treesOf t)) stand i there none (keepRows p q))
+        ∙ ap (λ (s : List ℕ). set (set s (3 * i + 1) m) (3 * i + 2) k) (R .trees ∙ a .stood)
+        ∙ ap (λ (s : List ℕ). set s (3 * i + 2) k) (set-behind (a .before) (treeWords mine ++ a .behind) (3 * i + 1) 1 m (omega (arith, a .long)))
+        ∙ set-behind (a .before) (mine .prefix ∷ m ∷ length (mine .runs) ∷ a .behind) (3 * i + 2) 2 k (omega (arith, a .long))
+        ∙ ap₂ (λ (y z : ℕ). a .before ++ (mine .prefix ∷ y ∷ z ∷ a .behind)) (rows-many u) (runs-many v)
+        ∙ sym (a .changed (keepRows p q))

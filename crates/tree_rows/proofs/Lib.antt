@@ -5,3 +5,5 @@ pub mod OneRow
 pub mod Flags
 pub mod Counts
 pub mod Kept
+pub mod Marking
+pub mod Putting
