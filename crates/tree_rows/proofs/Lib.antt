@@ -7,3 +7,7 @@ pub mod Counts
 pub mod Kept
 pub mod Marking
 pub mod Putting
+pub mod Flagged
+pub mod Again
+pub mod Stays
+pub mod Room
