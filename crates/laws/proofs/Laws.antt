@@ -7,6 +7,9 @@ use Rattle.laws.proofs.Disjoint.{disjoint}
 use Rattle.laws.proofs.Shapes.{shapes}
 use Rattle.laws.proofs.NamesOnce.{names-once}
 use Rattle.laws.proofs.PlanFits.{plan-fits, plan-fits-lent}
+use Rattle.laws.proofs.ReadsBack.{reads-back, keeps-lengths}
+use Rattle.laws.proofs.Validates.{validates}
+use Rattle.laws.proofs.PlanLaid.{plan-laid}
 use Rattle.laws.proofs.PlanCall.{demand3-call, proposed, has-places}
 
 pub laws : Laws
@@ -22,4 +25,8 @@ laws = record {
   planFits = plan-fits;
   planFitsLent = plan-fits-lent;
   planHasPlaces = has-places;
+  plannedValidate = validates;
+  planReadsBack = reads-back;
+  planKeepsLengths = keeps-lengths;
+  planLaid = plan-laid;
 }

@@ -2,20 +2,25 @@
 use Prim.Native.Nat.{ℕ, _+_, _≤_}
 use mathlib.Core.Path.{_≡_}
 use mathlib.Core.List.{List}
+use mathlib.Core.Bool.{true}
 use lib.ListN.{length}
 use Rattle.rules.specs.declared.Options.{Options}
 use Rattle.rules.specs.Tables.{Tree, Job}
 use Rattle.rules.specs.Lent.{LentTrees, LentJobs}
+use Rattle.rules.specs.Bounds.{goodTrees}
 use Rattle.rules.specs.Limit.{limitOf}
-use Rattle.rules.specs.Pick.{lastRun}
+use Rattle.rules.specs.Pick.{Spec, lastRun}
 use Rattle.rules.specs.Plan.{firstFresh}
-use Rattle.rules.specs.Planning.{LentPlan, planRefusal}
+use Rattle.rules.specs.Planning.{LentPlan, specPlaces, sourcePlaces, planRefusal, specSources}
 use Rattle.laws.specs.Demand3.{RunsBelow, SourcesBelow, Given, Demand3}
 use Rattle.laws.specs.Fuel.{Fuel}
 use Rattle.laws.specs.Disjoint.{Disjoint}
 use Rattle.laws.specs.Shapes.{Shapes}
 use Rattle.laws.specs.NamesOnce.{NamesOnce}
 use Rattle.laws.specs.PlanFits.{PlanFits, PlanFitsLent, PlanHasPlaces}
+use Rattle.laws.specs.ReadsBack.{ReadsBack, KeepsLengths}
+use Rattle.laws.specs.Validates.{Validates}
+use Rattle.laws.specs.PlanLaid.{PlanLaid}
 use Rattle.laws.specs.PlanCall.{Accepted, Demand3Call, Proposed}
 
 pub record Laws : Type 0 where
@@ -43,3 +48,12 @@ pub record Laws : Type 0 where
   -- so that the lent plan of a call that is not refused has a place for each
   pub planHasPlaces : (o : Options) (t : LentTrees) (j : LentJobs) (p : LentPlan) → planRefusal o t j p ≡ 0
       → PlanHasPlaces (limitOf (o .threshold)) o t j p
+  -- what a plan proposes, validation accepts
+  pub plannedValidate : (lim : ℕ → ℕ) (o : Options) → 1 ≤ o .min → o .min ≤ o .max → (ts : List Tree) (js : List Job)
+      → goodTrees ts ≡ true → Validates lim o ts js
+  -- what is laid in a lent plan reads back, and the rest of it keeps its bytes
+  pub planReadsBack : (p : LentPlan) (ss : List Spec) → ReadsBack p ss
+  pub planKeepsLengths : (p : LentPlan) (ss : List Spec) → length ss ≤ specPlaces p → length (specSources ss) ≤ sourcePlaces p
+      → KeepsLengths p ss
+  -- all three of the lent plan after a call
+  pub planLaid : (o : Options) (t : LentTrees) (j : LentJobs) (p : LentPlan) → planRefusal o t j p ≡ 0 → PlanLaid o t j p

@@ -7,5 +7,8 @@ pub mod Disjoint
 pub mod Shapes
 pub mod NamesOnce
 pub mod PlanFits
+pub mod ReadsBack
+pub mod Validates
 pub mod PlanCall
+pub mod PlanLaid
 pub mod Laws
