@@ -8,6 +8,7 @@ pub mod Packed
 pub mod ReadBack
 pub mod Lookups
 pub mod Refusals
+pub mod Passes
 pub mod Bounds
 pub mod Digits
 pub mod Nearest
