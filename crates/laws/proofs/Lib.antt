@@ -22,4 +22,7 @@ pub mod Rising
 pub mod NamesOnce
 pub mod PlanCall
 pub mod PlanLaid
+pub mod KeptJobs
+pub mod KeptTrees
+pub mod NothingLost
 pub mod Laws

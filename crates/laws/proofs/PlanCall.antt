@@ -1,14 +1,13 @@
 -- Demand 3 of the public call: an accepted call meets the first premises of demand 3, and answers with the plan.
-use Prim.Native.Nat.{ℕ, suc, _≤_}
-use mathlib.Core.Path.{_≡_, refl, ap₂}
+use Prim.Native.Nat.{_≤_}
+use mathlib.Core.Path.{_≡_, ap₂}
 use mathlib.Core.List.{map}
 use mathlib.Core.Bool.{Bool, true, false, _&&_, _||_}
-use native.Mathlib.Omega.{arith}
 use lib.Dec.{eqb, leb, ltb}
 use borrow.Author.Tests.{leb-true, not-false}
 use Rattle.rules.specs.declared.Options.{Options}
 use Rattle.rules.specs.declared.PlanAnswer.the-variants.{Planned}
-use Rattle.rules.specs.Lists.{all, distinct, _given_else_}
+use Rattle.rules.specs.Lists.{all, distinct}
 use Rattle.rules.specs.Tables.{sameUlid}
 use Rattle.rules.specs.Lent.{LentTrees, LentJobs, treesOf, jobsOf, l0Of, runsOf}
 use Rattle.rules.specs.Bounds.{maxConcurrent, treesOutside, jobsOutside, treesAtCapacity, firstIsRoot, fallingIds, goodMarks, goodTrees, treesMisshapen, jobsMisshapen}
@@ -17,6 +16,7 @@ use Rattle.rules.specs.Plan.{freeSlots}
 use Rattle.rules.specs.Planning.{LentPlan, badOptions, sizesOver, planTooSmall, planRefusal}
 use Rattle.rules.specs.Calls.{planCall}
 use Rattle.rules.proofs.Packed.{length-treesOf}
+use Rattle.rules.proofs.Refusals.{passed}
 use Rattle.rules.proofs.Lookups.{and-left, and-right, or-left}
 use Rattle.laws.specs.Demand3.{Given, Demand3}
 use Rattle.laws.specs.PlanCall.{Accepted, Demand3Call, Proposed}
@@ -27,11 +27,6 @@ use Rattle.laws.proofs.Disjoint.{disjoint}
 use Rattle.laws.proofs.Shapes.{shapes}
 use Rattle.laws.proofs.NamesOnce.{names-once}
 use Rattle.laws.proofs.PlanFits.{plan-has-places}
-
--- a check that is passed, and those after it
-passed : (n : ℕ) (b : Bool) (later : ℕ) → (suc n given b else later) ≡ 0 → (b ≡ false) × (later ≡ 0)
-passed n true later h = absurd (omega arith)
-passed n false later h = (refl, h)
 
 -- the parts of the rules on trees
 second-fourth-fifth : (a b c d e f : Bool) → a && b && c && d && e && f ≡ true → (b ≡ true) × (d ≡ true) × (e ≡ true)

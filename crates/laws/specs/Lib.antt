@@ -6,6 +6,7 @@ pub mod Fuel
 pub mod Disjoint
 pub mod Shapes
 pub mod NamesOnce
+pub mod NothingLost
 pub mod PlanFits
 pub mod ReadsBack
 pub mod Validates
