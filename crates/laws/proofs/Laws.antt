@@ -16,6 +16,7 @@ use Rattle.laws.proofs.PlanCall.{demand3-call, proposed, has-places}
 use Rattle.laws.proofs.KeptJobs.{added, merges, retains}
 use Rattle.laws.proofs.KeptTrees.{status-set, one-tree, finished-stays, tree-finished, drained-stays, tree-drained}
 use Rattle.laws.proofs.NothingLost.{add-keeps, merge-keeps, retain-keeps, finish-keeps, drain-keeps}
+use Rattle.laws.proofs.NoSecondAnswer.{no-second-answer}
 
 pub laws : Laws
 laws = record {
@@ -45,4 +46,5 @@ laws = record {
   retainKeeps = retain-keeps;
   finishKeeps = finish-keeps;
   drainKeeps = drain-keeps;
+  noSecondAnswer = no-second-answer;
 }

@@ -25,4 +25,5 @@ pub mod PlanLaid
 pub mod KeptJobs
 pub mod KeptTrees
 pub mod NothingLost
+pub mod NoSecondAnswer
 pub mod Laws

@@ -21,6 +21,7 @@ use Rattle.laws.specs.Disjoint.{Disjoint}
 use Rattle.laws.specs.Shapes.{Shapes}
 use Rattle.laws.specs.NamesOnce.{NamesOnce}
 use Rattle.laws.specs.NothingLost.{Added, Merged, Retained, StatusSet, OneTree, TreeFinished, TreeDrained, Ended}
+use Rattle.laws.specs.NoSecondAnswer.{NoSecondAnswer}
 use Rattle.laws.specs.PlanFits.{PlanFits, PlanFitsLent, PlanHasPlaces}
 use Rattle.laws.specs.ReadsBack.{ReadsBack, KeepsLengths}
 use Rattle.laws.specs.Validates.{Validates}
@@ -76,3 +77,5 @@ pub record Laws : Type 0 where
   pub finishKeeps : (t : LentTrees) (j : LentJobs) (u : Ulid) (out : Run) → finishRefusal t j u out ≡ 0
       → Ended (λ x. TreeFinished x out) u t j (finishCall t j u out)
   pub drainKeeps : (t : LentTrees) (j : LentJobs) (u : Ulid) → drainRefusal t j u ≡ 0 → Ended TreeDrained u t j (drainCall t j u)
+  -- no second answer fits
+  pub noSecondAnswer : NoSecondAnswer

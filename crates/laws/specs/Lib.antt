@@ -12,4 +12,5 @@ pub mod ReadsBack
 pub mod Validates
 pub mod PlanCall
 pub mod PlanLaid
+pub mod NoSecondAnswer
 pub mod Laws
