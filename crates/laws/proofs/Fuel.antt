@@ -17,10 +17,11 @@ use Rattle.rules.specs.Chain.{joined, chain}
 use Rattle.rules.specs.Windows.{usedIds, lasting, eligible, greatest}
 use Rattle.rules.specs.Pick.{Spec, also, Picked, pick, andOn, ownFirst, ownList}
 use Rattle.rules.specs.Plan.{State, Plan, withPick, firstFresh, freeSlots, placed, ordered, ask, pass, picked, passesFrom, start, planned, ownListOf}
+use Rattle.rules.proofs.Passes.{pass-stops, pass-none, pass-some, passes-end, passes-go-on}
 use Rattle.laws.specs.Fuel.{Fuel}
 use Rattle.laws.proofs.Used.{free, free-length}
 use Rattle.laws.proofs.Picks.{rowsOf, rows-length, pick-prefix, fewer}
-use Rattle.laws.proofs.Passes.{used-mine, pass-stops, pass-none, pass-some, passes-end, passes-go-on}
+use Rattle.laws.proofs.Passes.{used-mine}
 
 module _ (lim : ℕ → ℕ) (o : Options) where
   -- ---- own lists
@@ -82,12 +83,6 @@ module _ (lim : ℕ → ℕ) (o : Options) where
   not-picked : (st : State) → picked st st ≡ false
   not-picked st = ap not (eq-eqb (length (st .specs)) (length (st .specs)) refl)
 
-  -- with no slot a pass does nothing
-  pass-idle : (ts : List Tree) (st : State) → st .slots ≡ 0 → pass lim o ts st ≡ st
-  unfolding pass
-  pass-idle [] st h = refl
-  pass-idle (t ∷ ts) st h = pass-stops lim o t ts st h
-
   -- the call after a pass
   abbrev after : List Tree → State → State
   after ts st = pass lim o ts st
@@ -98,7 +93,7 @@ module _ (lim : ℕ → ℕ) (o : Options) where
   unfolding passesFrom
   passes-none ts zero passed st h = refl
   passes-none ts (suc n) passed st h =
-      let idle = pass-idle ts st (omega arith) in
+      let idle = pass-stops lim o ts st (omega arith) in
       passes-end lim o ts n passed st (rw idle (not-picked st))
       ∙ ap (λ (x : State). record { specs = x .specs; passes = passed }) idle
 

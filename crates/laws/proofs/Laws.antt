@@ -1,4 +1,6 @@
 -- THE STATEMENT: all laws hold.
+use Rattle.rules.specs.Finish.{finishTree, drainTree}
+use Rattle.laws.specs.NothingLost.{TreeFinished, TreeDrained}
 use Rattle.laws.specs.Laws.{Laws}
 use Rattle.laws.proofs.Fresh.{sources-suffice}
 use Rattle.laws.proofs.Demand3.{demand3}
@@ -7,7 +9,14 @@ use Rattle.laws.proofs.Disjoint.{disjoint}
 use Rattle.laws.proofs.Shapes.{shapes}
 use Rattle.laws.proofs.NamesOnce.{names-once}
 use Rattle.laws.proofs.PlanFits.{plan-fits, plan-fits-lent}
+use Rattle.laws.proofs.ReadsBack.{reads-back, keeps-lengths}
+use Rattle.laws.proofs.Validates.{validates}
+use Rattle.laws.proofs.PlanLaid.{plan-laid}
 use Rattle.laws.proofs.PlanCall.{demand3-call, proposed, has-places}
+use Rattle.laws.proofs.KeptJobs.{added, merges, retains}
+use Rattle.laws.proofs.KeptTrees.{status-set, one-tree, finished-stays, tree-finished, drained-stays, tree-drained}
+use Rattle.laws.proofs.NothingLost.{add-keeps, merge-keeps, retain-keeps, finish-keeps, drain-keeps}
+use Rattle.laws.proofs.NoSecondAnswer.{no-second-answer}
 
 pub laws : Laws
 laws = record {
@@ -22,4 +31,20 @@ laws = record {
   planFits = plan-fits;
   planFitsLent = plan-fits-lent;
   planHasPlaces = has-places;
+  plannedValidate = validates;
+  planReadsBack = reads-back;
+  planKeepsLengths = keeps-lengths;
+  planLaid = plan-laid;
+  added = added;
+  merges = merges;
+  retains = retains;
+  statusSet = status-set;
+  finishes = λ k j out. one-tree k (finishTree j out) (finished-stays j out) (TreeFinished j out) (tree-finished j out);
+  drains = λ k j. one-tree k (drainTree j) (drained-stays j) (TreeDrained j) (tree-drained j);
+  addKeeps = add-keeps;
+  mergeKeeps = merge-keeps;
+  retainKeeps = retain-keeps;
+  finishKeeps = finish-keeps;
+  drainKeeps = drain-keeps;
+  noSecondAnswer = no-second-answer;
 }

@@ -16,7 +16,14 @@ pub mod Shapes
 pub mod Sources
 pub mod Sums
 pub mod PlanFits
+pub mod ReadsBack
+pub mod Validates
 pub mod Rising
 pub mod NamesOnce
 pub mod PlanCall
+pub mod PlanLaid
+pub mod KeptJobs
+pub mod KeptTrees
+pub mod NothingLost
+pub mod NoSecondAnswer
 pub mod Laws

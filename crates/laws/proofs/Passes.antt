@@ -14,6 +14,7 @@ use Rattle.rules.specs.declared.Options.{Options}
 use Rattle.rules.specs.Tables.{SourceId, Tree, among}
 use Rattle.rules.specs.Pick.{Spec, specUses, also, Picked, pick}
 use Rattle.rules.specs.Plan.{State, Plan, withPick, ask, pass, picked, passesFrom}
+use Rattle.rules.proofs.Passes.{pass-stops, pass-none, pass-some, passes-end, passes-go-on}
 use Rattle.laws.specs.Demand3.{aside}
 use Rattle.laws.proofs.Picks.{pick-prefix}
 use Rattle.laws.proofs.Own.{Follows}
@@ -31,41 +32,6 @@ module _ (p : Picked) (st : State) where
       fun-ext (λ x. ap (λ (c : Bool). st .used k x || (c && among x (specUses (p .spec)))) (ne-eqb (p .spec .prefix) k h) ∙ or-false (st .used k x))
 
 module _ (lim : ℕ → ℕ) (o : Options) where
-  -- ---- a pass, case by case
-
-  -- "the pass stops at the first tree met with no slot left"
-  pub pass-stops : (t : Tree) (ts : List Tree) (st : State) → st .slots ≡ 0 → pass lim o (t ∷ ts) st ≡ st
-  unfolding pass
-  pass-stops t ts st e = rw (eq-eqb (st .slots) 0 e)
-
-  -- a tree without a pick
-  pub pass-none : (t : Tree) (ts : List Tree) (st : State) → st .slots ≢ 0
-      → pick lim o (st .used (t .prefix)) (st .fresh) t ≡ none
-      → pass lim o (t ∷ ts) st ≡ pass lim o ts st
-  unfolding pass ask
-  pass-none t ts st h e = rw (ne-eqb (st .slots) 0 h, e)
-
-  -- a tree with one
-  pub pass-some : (t : Tree) (ts : List Tree) (st : State) (p : Picked) → st .slots ≢ 0
-      → pick lim o (st .used (t .prefix)) (st .fresh) t ≡ some p
-      → pass lim o (t ∷ ts) st ≡ pass lim o ts (withPick (some p) st)
-  unfolding pass ask
-  pass-some t ts st p h e = rw (ne-eqb (st .slots) 0 h, e)
-
-  -- ---- passes, case by case
-
-  -- "Planning ends after a pass without a pick."
-  pub passes-end : (ts : List Tree) (n passed : ℕ) (st : State) → picked st (pass lim o ts st) ≡ false
-      → passesFrom lim o ts (suc n) passed st ≡ record { specs = pass lim o ts st .specs; passes = passed }
-  unfolding passesFrom
-  passes-end ts n passed st e = rw e
-
-  -- and goes on after one with a pick
-  pub passes-go-on : (ts : List Tree) (n passed : ℕ) (st : State) → picked st (pass lim o ts st) ≡ true
-      → passesFrom lim o ts (suc n) passed st ≡ passesFrom lim o ts n (suc passed) (pass lim o ts st)
-  unfolding passesFrom
-  passes-go-on ts n passed st e = rw e
-
   -- ---- dealing
   module _ (first : ℕ) where
     -- each tree follows its list
@@ -97,7 +63,7 @@ module _ (lim : ℕ → ℕ) (o : Options) where
     unfolding pass
     pass-deals [] [] s st e hf d h = record { specs = sym (append-nil (map aside (st .specs))); left = tt; slots = omega arith; fresh = hf; others = λ k n. refl }
     pass-deals (t ∷ ts) (queue k l ∷ qs) zero st e hf d h =
-        rw (pass-stops t ts st e)
+        rw (pass-stops lim o (t ∷ ts) st e)
         (record {
           specs = rw (heads-zero (queue k l ∷ qs)) (sym (append-nil (map aside (st .specs))));
           left = rw (rests-zero (queue k l ∷ qs)) h;
@@ -107,7 +73,7 @@ module _ (lim : ℕ → ℕ) (o : Options) where
         })
     pass-deals (t ∷ ts) (queue k [] ∷ qs) (suc s) st e hf d h =
         let r = pass-deals ts qs (suc s) st e hf (d .1) (h .1) in
-        rw (pass-none t ts st (λ z. omega arith) (h .0 (st .fresh) hf))
+        rw (pass-none lim o t ts st (λ z. omega arith) (h .0 (st .fresh) hf))
         (record {
           specs = r .specs;
           left = (subst (λ (w : SourceId → Bool). Follows lim o first t w []) (sym (r .others (t .prefix) (d .0))) (h .0), r .left);
@@ -122,7 +88,7 @@ module _ (lim : ℕ → ℕ) (o : Options) where
         let next = withPick (some p) st in
         let r =
         pass-deals ts qs s next (omega arith) (y .3) (d .1) (follow-same (st .used) (next .used) ts qs (λ c m. used-other p st (c .prefix) (λ q. d .0 c m (sym q ∙ mine))) (h .1)) in
-        rw (pass-some t ts st p (λ z. omega arith) (y .1))
+        rw (pass-some lim o t ts st p (λ z. omega arith) (y .1))
         (record {
           specs = r .specs ∙ rw (map-append aside (st .specs) (p .spec ∷ []), append-assoc (map aside (st .specs)) (aside (p .spec) ∷ []) (heads qs s), y .2);
           left = (
@@ -172,13 +138,13 @@ module _ (lim : ℕ → ℕ) (o : Options) where
             → (after .slots ≤ n → Dealt (passesFrom lim o ts n (suc passed) after) (suc passed) after (rests qs (st .slots)))
             → Dealt (passesFrom lim o ts (suc n) passed st) passed st qs
         go r [] e ih =
-            rw (passes-end ts n passed st (ap not (eq-eqb (length (after .specs)) (length (st .specs)) (omega (arith, counts r, ap length e)))))
+            rw (passes-end lim o ts n passed st (ap not (eq-eqb (length (after .specs)) (length (st .specs)) (omega (arith, counts r, ap length e)))))
             (record { given = []; rounds = 0; deal = done e; specs = rw e at (r .specs); passes = omega arith })
         go r (x ∷ hs) e ih =
             let c = counts r in
             let l = ap length e in
             let m = ih (omega (arith, r .slots)) in
-            rw (passes-go-on ts n passed st (ap not (ne-eqb (length (after .specs)) (length (st .specs)) (λ q. omega arith))))
+            rw (passes-go-on lim o ts n passed st (ap not (ne-eqb (length (after .specs)) (length (st .specs)) (λ q. omega arith))))
             (record {
               given = heads qs (st .slots) ++ m .given;
               rounds = suc (m .rounds);

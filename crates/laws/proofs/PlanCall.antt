@@ -1,14 +1,13 @@
 -- Demand 3 of the public call: an accepted call meets the first premises of demand 3, and answers with the plan.
-use Prim.Native.Nat.{ℕ, suc, _≤_}
-use mathlib.Core.Path.{_≡_, refl, ap₂}
+use Prim.Native.Nat.{_≤_}
+use mathlib.Core.Path.{_≡_, ap₂}
 use mathlib.Core.List.{map}
 use mathlib.Core.Bool.{Bool, true, false, _&&_, _||_}
-use native.Mathlib.Omega.{arith}
 use lib.Dec.{eqb, leb, ltb}
 use borrow.Author.Tests.{leb-true, not-false}
 use Rattle.rules.specs.declared.Options.{Options}
 use Rattle.rules.specs.declared.PlanAnswer.the-variants.{Planned}
-use Rattle.rules.specs.Lists.{all, distinct, _given_else_}
+use Rattle.rules.specs.Lists.{all, distinct}
 use Rattle.rules.specs.Tables.{sameUlid}
 use Rattle.rules.specs.Lent.{LentTrees, LentJobs, treesOf, jobsOf, l0Of, runsOf}
 use Rattle.rules.specs.Bounds.{maxConcurrent, treesOutside, jobsOutside, treesAtCapacity, firstIsRoot, fallingIds, goodMarks, goodTrees, treesMisshapen, jobsMisshapen}
@@ -17,6 +16,7 @@ use Rattle.rules.specs.Plan.{freeSlots}
 use Rattle.rules.specs.Planning.{LentPlan, badOptions, sizesOver, planTooSmall, planRefusal}
 use Rattle.rules.specs.Calls.{planCall}
 use Rattle.rules.proofs.Packed.{length-treesOf}
+use Rattle.rules.proofs.Refusals.{passed}
 use Rattle.rules.proofs.Lookups.{and-left, and-right, or-left}
 use Rattle.laws.specs.Demand3.{Given, Demand3}
 use Rattle.laws.specs.PlanCall.{Accepted, Demand3Call, Proposed}
@@ -28,11 +28,6 @@ use Rattle.laws.proofs.Shapes.{shapes}
 use Rattle.laws.proofs.NamesOnce.{names-once}
 use Rattle.laws.proofs.PlanFits.{plan-has-places}
 
--- a check that is passed, and those after it
-passed : (n : ℕ) (b : Bool) (later : ℕ) → (suc n given b else later) ≡ 0 → (b ≡ false) × (later ≡ 0)
-passed n true later h = absurd (omega arith)
-passed n false later h = (refl, h)
-
 -- the parts of the rules on trees
 second-fourth-fifth : (a b c d e f : Bool) → a && b && c && d && e && f ≡ true → (b ≡ true) × (d ≡ true) × (e ≡ true)
 second-fourth-fifth a b c d e f h =
@@ -41,9 +36,14 @@ second-fourth-fifth a b c d e f h =
     let two = and-left (a && b) c (and-left (a && b && c) d four) in
     (and-right a b two, and-right (a && b && c) d four, and-right (a && b && c && d) e five)
 
+-- trees that are not refused 2 keep its rules
+good-trees : (t : LentTrees) → treesMisshapen t ≡ false → goodTrees (treesOf t) ≡ true
+unfolding treesMisshapen
+good-trees t h = and-right (treesAtCapacity t) (goodTrees (treesOf t)) (not-false (treesAtCapacity t && goodTrees (treesOf t)) h)
+
 -- "a prefix twice" is refused, and "a run id or L0 view id twice anywhere"
 rows-once : (t : LentTrees) → treesMisshapen t ≡ false → RowsOnce (treesOf t)
-unfolding treesMisshapen goodTrees
+unfolding goodTrees
 rows-once t h =
     let ts = treesOf t in
     let parts =
@@ -54,7 +54,7 @@ rows-once t h =
     (distinct eqb (map (λ r. r .id) (runsOf ts)))
     (distinct sameUlid (map (λ v. v .view) (l0Of ts)))
     (all goodMarks ts)
-    (and-right (treesAtCapacity t) (goodTrees ts) (not-false (treesAtCapacity t && goodTrees ts) h)) in
+    (good-trees t h) in
     record { prefixes = parts .0; runs = parts .1; views = parts .2 }
 
 -- not 1 ≤ min ≤ max is refused
@@ -66,36 +66,52 @@ good-bounds o h =
     )
 
 module _ (o : Options) (t : LentTrees) (j : LentJobs) (p : LentPlan) where
-  -- an accepted call has trees of a good shape and good options
-  accepted-good : planRefusal o t j p ≡ 0 → RowsOnce (treesOf t) × (1 ≤ o .min) × (o .min ≤ o .max)
+  -- what a call that is not refused is known to be lent
+  pub record Good : Type 0 where
+    pub inside : treesOutside t ≡ false
+    pub shapely : treesMisshapen t ≡ false
+    pub trees : goodTrees (treesOf t) ≡ true
+    pub once : RowsOnce (treesOf t)
+    pub least : 1 ≤ o .min
+    pub most : o .min ≤ o .max
+    pub places : planTooSmall (freeSlots o (jobsOf j)) t p ≡ false
+
+  -- an accepted call has trees of a good shape, good options, and a plan with places enough
+  pub accepted-good : planRefusal o t j p ≡ 0 → Good
   unfolding planRefusal
   accepted-good h =
-      let h₁ = passed 0 (treesOutside t || jobsOutside j || ltb maxConcurrent (o .concurrent)) _ h .1 in
-      let h₂ = passed 1 (treesMisshapen t || jobsMisshapen j) _ h₁ in
-      let bounds = good-bounds o (passed 2 (badOptions o) _ (h₂ .1) .0) in
-      (rows-once t (or-left (treesMisshapen t) (jobsMisshapen j) (h₂ .0)), bounds .0, bounds .1)
+      let h₁ = passed 0 (treesOutside t || jobsOutside j || ltb maxConcurrent (o .concurrent)) _ h in
+      let h₂ = passed 1 (treesMisshapen t || jobsMisshapen j) _ (h₁ .1) in
+      let h₃ = passed 2 (badOptions o) _ (h₂ .1) in
+      let h₄ = passed 3 (sizesOver (treesOf t)) _ (h₃ .1) in
+      let shapely = or-left (treesMisshapen t) (jobsMisshapen j) (h₂ .0) in
+      let bounds = good-bounds o (h₃ .0) in
+      record {
+        inside = or-left (treesOutside t) (jobsOutside j) (or-left (treesOutside t || jobsOutside j) (ltb maxConcurrent (o .concurrent)) (h₁ .0));
+        shapely = shapely;
+        trees = good-trees t shapely;
+        once = rows-once t shapely;
+        least = bounds .0;
+        most = bounds .1;
+        places = passed 4 (planTooSmall (freeSlots o (jobsOf j)) t p) 0 (h₄ .1) .0;
+      }
 
-  -- and a plan with places enough
+  -- so there is a place for each spec and each source
   pub has-places : planRefusal o t j p ≡ 0 → PlanHasPlaces (limitOf (o .threshold)) o t j p
-  unfolding planRefusal
-  has-places h =
-      let h₁ = passed 0 (treesOutside t || jobsOutside j || ltb maxConcurrent (o .concurrent)) _ h .1 in
-      let h₂ = passed 1 (treesMisshapen t || jobsMisshapen j) _ h₁ .1 in
-      let h₄ = passed 3 (sizesOver (treesOf t)) _ (passed 2 (badOptions o) _ h₂ .1) .1 in
-      plan-has-places (limitOf (o .threshold)) o t j p (passed 4 (planTooSmall (freeSlots o (jobsOf j)) t p) 0 h₄ .0)
+  has-places h = plan-has-places (limitOf (o .threshold)) o t j p (accepted-good h .places)
 
   -- what an accepted call proposes
   pub proposed : planRefusal o t j p ≡ 0 → Proposed o t j
   proposed h =
       let lim = limitOf (o .threshold) in
       let good = accepted-good h in
-      let names = names-once lim o (good .1) (good .2) (treesOf t) (jobsOf j) in
+      let names = names-once lim o (good .least) (good .most) (treesOf t) (jobsOf j) in
       record {
-        shapes = shapes lim o (good .1) (good .2) (treesOf t) (jobsOf j);
+        shapes = shapes lim o (good .least) (good .most) (treesOf t) (jobsOf j);
         disjoint = disjoint lim o (treesOf t) (jobsOf j);
-        sources = names .plan (good .0);
-        destinations = λ room. names .destinations (good .0) (rw (length-treesOf t) room);
-        fresh = λ room. names .fresh (good .0) (rw (length-treesOf t) room);
+        sources = names .plan (good .once);
+        destinations = λ room. names .destinations (good .once) (rw (length-treesOf t) room);
+        fresh = λ room. names .fresh (good .once) (rw (length-treesOf t) room);
       }
 
   module _ (a : Accepted o t j p) where
@@ -103,7 +119,7 @@ module _ (o : Options) (t : LentTrees) (j : LentJobs) (p : LentPlan) where
     premises : Given o (treesOf t) (jobsOf j)
     premises =
         let good = accepted-good (a .accepted) in
-        record { least = good .1; most = good .2; prefixes = good .0 .prefixes; room = rw (length-treesOf t) (a .room); below = a .below }
+        record { least = good .least; most = good .most; prefixes = good .once .prefixes; room = rw (length-treesOf t) (a .room); below = a .below }
 
     -- so demand 3 holds of its plan
     demanded : Demand3 (limitOf (o .threshold)) o (treesOf t) (jobsOf j)

@@ -17,13 +17,14 @@ use Rattle.rules.specs.Plan.{State, withPick, freeSlots, ordered, pass, picked,
 use Rattle.rules.specs.Planning.{LentPlan, specPlaces, sourcePlaces, planTooSmall, specSources}
 use Rattle.rules.proofs.Appended.{all-append}
 use Rattle.rules.proofs.Lookups.{and-left, or-left, or-right}
+use Rattle.rules.proofs.Passes.{passes-end, passes-go-on}
 use Rattle.rules.proofs.Packed.{length-l0, length-runs}
 use Rattle.rules.proofs.Rows.{concatMap-append}
 use Rattle.laws.specs.PlanFits.{PlanFits, PlanFitsLent, PlanHasPlaces}
 use Rattle.laws.proofs.Used.{unused, mem-among, free, free-length, free-le}
 use Rattle.laws.proofs.Picks.{rowsOf, rows-length, Cases, takes-rows, takes-runs, pick-cases, pick-prefix, pick-free}
 use Rattle.laws.proofs.Order.{ordered-only}
-use Rattle.laws.proofs.Passes.{used-mine, passes-end, passes-go-on, call-keeps}
+use Rattle.laws.proofs.Passes.{used-mine, call-keeps}
 use Rattle.laws.proofs.Fuel.{pass-spends}
 use Rattle.laws.proofs.Shapes.{Part, window-part, drop-part}
 use Rattle.laws.proofs.Sums.{total-le, total-less}

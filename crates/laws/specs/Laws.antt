@@ -2,20 +2,30 @@
 use Prim.Native.Nat.{ℕ, _+_, _≤_}
 use mathlib.Core.Path.{_≡_}
 use mathlib.Core.List.{List}
+use mathlib.Core.Bool.{true}
 use lib.ListN.{length}
 use Rattle.rules.specs.declared.Options.{Options}
-use Rattle.rules.specs.Tables.{Tree, Job}
-use Rattle.rules.specs.Lent.{LentTrees, LentJobs}
+use Rattle.rules.specs.Tables.{Ulid, Run, Tree, Job}
+use Rattle.rules.specs.Lent.{LentTrees, LentJobs, jobsOf}
+use Rattle.rules.specs.Bounds.{goodTrees, goodJob, goodJobs}
 use Rattle.rules.specs.Limit.{limitOf}
-use Rattle.rules.specs.Pick.{lastRun}
+use Rattle.rules.specs.Pick.{Spec, lastRun}
 use Rattle.rules.specs.Plan.{firstFresh}
-use Rattle.rules.specs.Planning.{LentPlan, planRefusal}
+use Rattle.rules.specs.Planning.{LentPlan, specPlaces, sourcePlaces, planRefusal, specSources}
+use Rattle.rules.specs.Jobs.{LentJob, jobOf, inserted, merged, retained, addRefusal, mergeRefusal, retainRefusal}
+use Rattle.rules.specs.Finish.{finishTree, drainTree, inTree, setStatus, finishRefusal, drainRefusal}
+use Rattle.rules.specs.Calls.{addCall, mergeCall, retainCall, finishCall, drainCall}
 use Rattle.laws.specs.Demand3.{RunsBelow, SourcesBelow, Given, Demand3}
 use Rattle.laws.specs.Fuel.{Fuel}
 use Rattle.laws.specs.Disjoint.{Disjoint}
 use Rattle.laws.specs.Shapes.{Shapes}
 use Rattle.laws.specs.NamesOnce.{NamesOnce}
+use Rattle.laws.specs.NothingLost.{Added, Merged, Retained, StatusSet, OneTree, TreeFinished, TreeDrained, Ended}
+use Rattle.laws.specs.NoSecondAnswer.{NoSecondAnswer}
 use Rattle.laws.specs.PlanFits.{PlanFits, PlanFitsLent, PlanHasPlaces}
+use Rattle.laws.specs.ReadsBack.{ReadsBack, KeepsLengths}
+use Rattle.laws.specs.Validates.{Validates}
+use Rattle.laws.specs.PlanLaid.{PlanLaid}
 use Rattle.laws.specs.PlanCall.{Accepted, Demand3Call, Proposed}
 
 pub record Laws : Type 0 where
@@ -43,3 +53,29 @@ pub record Laws : Type 0 where
   -- so that the lent plan of a call that is not refused has a place for each
   pub planHasPlaces : (o : Options) (t : LentTrees) (j : LentJobs) (p : LentPlan) → planRefusal o t j p ≡ 0
       → PlanHasPlaces (limitOf (o .threshold)) o t j p
+  -- what a plan proposes, validation accepts
+  pub plannedValidate : (lim : ℕ → ℕ) (o : Options) → 1 ≤ o .min → o .min ≤ o .max → (ts : List Tree) (js : List Job)
+      → goodTrees ts ≡ true → Validates lim o ts js
+  -- what is laid in a lent plan reads back, and the rest of it keeps its bytes
+  pub planReadsBack : (p : LentPlan) (ss : List Spec) → ReadsBack p ss
+  pub planKeepsLengths : (p : LentPlan) (ss : List Spec) → length ss ≤ specPlaces p → length (specSources ss) ≤ sourcePlaces p
+      → KeepsLengths p ss
+  -- all three of the lent plan after a call
+  pub planLaid : (o : Options) (t : LentTrees) (j : LentJobs) (p : LentPlan) → planRefusal o t j p ≡ 0 → PlanLaid o t j p
+  -- nothing is lost: of lists
+  pub added : (j : Job) (js : List Job) → goodJob j ≡ true → goodJobs js ≡ true → Added j js (inserted j js)
+  pub merges : (known remote : List Job) → goodJobs known ≡ true → goodJobs remote ≡ true
+      → Merged known remote (merged known remote)
+  pub retains : (js : List Job) → goodJobs js ≡ true → Retained js (retained js)
+  pub statusSet : (u : Ulid) (n : ℕ) (js : List Job) → StatusSet u n js (setStatus u n js)
+  pub finishes : (k : ℕ) (j : Job) (out : Run) (ts : List Tree) → OneTree k (TreeFinished j out) ts (inTree k (finishTree j out) ts)
+  pub drains : (k : ℕ) (j : Job) (ts : List Tree) → OneTree k (TreeDrained j) ts (inTree k (drainTree j) ts)
+  -- and of each call that is not refused
+  pub addKeeps : (t : LentJobs) (j : LentJob) → addRefusal t j ≡ 0 → Added (jobOf j) (jobsOf t) (jobsOf (addCall t j .jobs))
+  pub mergeKeeps : (t r : LentJobs) → mergeRefusal t r ≡ 0 → Merged (jobsOf t) (jobsOf r) (jobsOf (mergeCall t r .jobs))
+  pub retainKeeps : (t : LentJobs) → retainRefusal t ≡ 0 → Retained (jobsOf t) (jobsOf (retainCall t .jobs))
+  pub finishKeeps : (t : LentTrees) (j : LentJobs) (u : Ulid) (out : Run) → finishRefusal t j u out ≡ 0
+      → Ended (λ x. TreeFinished x out) u t j (finishCall t j u out)
+  pub drainKeeps : (t : LentTrees) (j : LentJobs) (u : Ulid) → drainRefusal t j u ≡ 0 → Ended TreeDrained u t j (drainCall t j u)
+  -- no second answer fits
+  pub noSecondAnswer : NoSecondAnswer

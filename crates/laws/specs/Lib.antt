@@ -6,6 +6,11 @@ pub mod Fuel
 pub mod Disjoint
 pub mod Shapes
 pub mod NamesOnce
+pub mod NothingLost
 pub mod PlanFits
+pub mod ReadsBack
+pub mod Validates
 pub mod PlanCall
+pub mod PlanLaid
+pub mod NoSecondAnswer
 pub mod Laws

@@ -7,7 +7,9 @@ pub mod Laid
 pub mod Packed
 pub mod ReadBack
 pub mod Lookups
+pub mod Rising
 pub mod Refusals
+pub mod Passes
 pub mod Bounds
 pub mod Digits
 pub mod Nearest

@@ -23,10 +23,10 @@ column-at f (x ∷ xs) rest d (suc i) h = column-at f xs rest d i (le-of-suc-le-
 
 -- rows of w numbers: number k of row i, wherever the reader finds it, and the ULID from number k on
 module _ {A : Type 0} (words : A → List ℕ) (w : ℕ) (width : (a : A) → length (words a) ≡ w) (xs : List A) (rest : List ℕ) (d : A) (i : ℕ) (h : i < length xs) where
-  number : (at k : ℕ) → k < w → at ≡ w * i + k → getD (concatMap words xs ++ rest) at 0 ≡ getD (words (getD xs i d)) k 0
+  pub number : (at k : ℕ) → k < w → at ≡ w * i + k → getD (concatMap words xs ++ rest) at 0 ≡ getD (words (getD xs i d)) k 0
   number at k l e = ap (λ (n : ℕ). getD (concatMap words xs ++ rest) n 0) e ∙ number-at words w width xs rest d i k h l
 
-  ulid : (at k : ℕ) → k + 1 < w → at ≡ w * i + k → ulidAt (concatMap words xs ++ rest) at ≡ ulidAt (words (getD xs i d)) k
+  pub ulid : (at k : ℕ) → k + 1 < w → at ≡ w * i + k → ulidAt (concatMap words xs ++ rest) at ≡ ulidAt (words (getD xs i d)) k
   ulid at k l e = ulid-eq (number at k (omega arith) e) (number (at + 1) (k + 1) l (omega arith))
 
 -- rows xs that stand after `pre` and before `post`
@@ -43,7 +43,7 @@ module _ {A B : Type 0} (of : A → List B) where
   unfolding concatMap
   within f d pre x now all e h = rows-within f d (concatMap of pre) (of x) (concatMap of now) (rw (← e, concatMap-append) at h)
 
-  more : (pre : List A) (x : A) → length (concatMap of (pre ++ (x ∷ []))) ≡ length (concatMap of pre) + length (of x)
+  pub more : (pre : List A) (x : A) → length (concatMap of (pre ++ (x ∷ []))) ≡ length (concatMap of pre) + length (of x)
   unfolding concatMap
   more pre x = rw (concatMap-append of pre (x ∷ []), length-append (concatMap of pre) (of x ++ [])) (omega (arith, length-append (of x) []))
 

@@ -106,13 +106,13 @@ module _ (t : LentTrees) (j : LentJobs) (u : Ulid) where
   abbrev first : ℕ → ℕ
   first later = 1 given treesOutside t || jobsOutside j else 2 given treesMisshapen t || jobsMisshapen j else later
 
-  finish-there : (out : Run) → finishRefusal t j u out ≡ 0 → jobWith u (jobsOf j) ≡ none → ⊥
+  pub finish-there : (out : Run) → finishRefusal t j u out ≡ 0 → jobWith u (jobsOf j) ≡ none → ⊥
   unfolding finishRefusal finishJobRefusal
   finish-there out z e =
       no-job (treesOutside t || jobsOutside j) (treesMisshapen t || jobsMisshapen j)
       (sym (ap (λ (x : Option Job). first (finishJobRefusal out (treesOf t) x)) e) ∙ z)
 
-  drain-there : drainRefusal t j u ≡ 0 → jobWith u (jobsOf j) ≡ none → ⊥
+  pub drain-there : drainRefusal t j u ≡ 0 → jobWith u (jobsOf j) ≡ none → ⊥
   unfolding drainRefusal drainJobRefusal
   drain-there z e =
       no-job (treesOutside t || jobsOutside j) (treesMisshapen t || jobsMisshapen j)
@@ -133,3 +133,8 @@ finish-refused t j u out n e = (rw e, rw e)
 pub drain-refused : (t : LentTrees) (j : LentJobs) (u : Ulid) (n : ℕ) → drainRefusal t j u ≡ suc n → (drainCall t j u .trees ≡ t) × (drainCall t j u .jobMarks ≡ j .jobMarks)
 unfolding drainCall
 drain-refused t j u n e = (rw e, rw e)
+
+-- ---- a check that is passed, and those after it
+pub passed : (n : ℕ) (b : Bool) (later : ℕ) → (suc n given b else later) ≡ 0 → (b ≡ false) × (later ≡ 0)
+passed n true later h = absurd (omega arith)
+passed n false later h = (refl, h)
