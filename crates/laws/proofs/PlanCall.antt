@@ -29,7 +29,7 @@ use Rattle.laws.proofs.NamesOnce.{names-once}
 use Rattle.laws.proofs.PlanFits.{plan-has-places}
 
 -- a check that is passed, and those after it
-passed : (n : ℕ) (b : Bool) (later : ℕ) → (suc n given b else later) ≡ 0 → (b ≡ false) × (later ≡ 0)
+pub passed : (n : ℕ) (b : Bool) (later : ℕ) → (suc n given b else later) ≡ 0 → (b ≡ false) × (later ≡ 0)
 passed n true later h = absurd (omega arith)
 passed n false later h = (refl, h)
 
