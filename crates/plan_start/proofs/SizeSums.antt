@@ -3,17 +3,18 @@ use Prim.Native.Nat.{ℕ, zero, suc, _+_, _-_, _*_, _^_, _≤_, _<_}
 use mathlib.Core.Path.{_≡_, refl, sym, ap, _∙_}
 use mathlib.Core.List.{List, _∷_, map}
 use mathlib.Core.Bool.{Bool, true, false, _||_}
-use native.Mathlib.Nat.{sub-zero, zero-add}
+use native.Mathlib.Nat.{sub-zero, zero-add, add-zero, add-assoc, not-suc-le-zero, le-of-suc-le-suc}
 use native.Mathlib.Omega.{arith}
 use lib.Dec.{leb}
 use lib.ListN.{length, getD, take, drop}
 use lib.Seq.{drop-cons}
-use borrow.Author.Tests.{le-leb, lt-leb}
+use borrow.Author.Tests.{le-leb, lt-leb, leb-false}
 use Rattle.rules.specs.Lists.{any, total}
 use Rattle.rules.specs.Tables.{L0Row, Run}
 use Rattle.rules.specs.Lent.{LentTrees, rowsFrom, l0At, runAt, l0Count, runCount, treesFrom, treesOf, l0Used, runsUsed}
 use Rattle.rules.specs.Planning.{sizesOver}
 use Rattle.rules.proofs.Rows.{rows-are, rows-next, map-rowsFrom}
+use Rattle.rules.proofs.Lookups.{or-left, or-right}
 use Rattle.rows.proofs.Sums.{Summed, sum-starts, sum-next, sum-ends}
 use Rattle.plan_start.specs.Sizes.{overFrom}
 
@@ -105,3 +106,26 @@ over-is t i l r (suc n) h k =
 pub flat-sizes : (t : LentTrees) → l0Used t ≤ length (t .l0Sizes) → runsUsed t ≤ length (t .runSizes) → sizesOver (treesOf t) ≡ overFrom (t .trees) (t .l0Sizes) (t .runSizes) 0 0 0 (t .count)
 unfolding sizesOver treesOf l0Used runsUsed
 flat-sizes t h k = over-is t 0 0 0 (t .count) (omega arith) (omega arith)
+
+-- ---- where no tree's sizes are over, those of each are below
+under : (trees l0Sizes runSizes : List ℕ) (i l r n : ℕ) → overFrom trees l0Sizes runSizes i l r n ≡ false → (k : ℕ) → k < n
+    → (total (take (getD trees (3 * (i + k) + 1) 0) (drop (l + total (rowsFrom (λ m. getD trees (3 * m + 1) 0) i k)) l0Sizes)) < 2 ^ 64)
+    × (total (take (getD trees (3 * (i + k) + 2) 0) (drop (r + total (rowsFrom (λ m. getD trees (3 * m + 2) 0) i k)) runSizes)) < 2 ^ 64)
+unfolding overFrom rowsFrom total
+under trees l0Sizes runSizes i l r zero e k h = absurd (not-suc-le-zero h)
+under trees l0Sizes runSizes i l r (suc n) e zero h =
+    let a = leb (2 ^ 64) (total (take (getD trees (3 * i + 1) 0) (drop l l0Sizes))) in
+    let b = leb (2 ^ 64) (total (take (getD trees (3 * i + 2) 0) (drop r runSizes))) in
+    let both = or-left (a || b) _ e in
+    rw (add-zero, add-zero, add-zero) (leb-false (2 ^ 64) _ (or-left a b both), leb-false (2 ^ 64) _ (or-right a b both))
+under trees l0Sizes runSizes i l r (suc n) e (suc k) h =
+    let a = leb (2 ^ 64) (total (take (getD trees (3 * i + 1) 0) (drop l l0Sizes))) in
+    let b = leb (2 ^ 64) (total (take (getD trees (3 * i + 2) 0) (drop r runSizes))) in
+    let next : i + suc k ≡ i + 1 + k = omega arith in
+    rw (next, ← add-assoc l, ← add-assoc r)
+    (under trees l0Sizes runSizes (i + 1) (l + getD trees (3 * i + 1) 0) (r + getD trees (3 * i + 2) 0) n (or-right (a || b) _ e) k (le-of-suc-le-suc h))
+
+pub not-over : (trees l0Sizes runSizes : List ℕ) (n : ℕ) → overFrom trees l0Sizes runSizes 0 0 0 n ≡ false → (k : ℕ) → k < n
+    → (total (take (getD trees (3 * k + 1) 0) (drop (total (rowsFrom (λ m. getD trees (3 * m + 1) 0) 0 k)) l0Sizes)) < 2 ^ 64)
+    × (total (take (getD trees (3 * k + 2) 0) (drop (total (rowsFrom (λ m. getD trees (3 * m + 2) 0) 0 k)) runSizes)) < 2 ^ 64)
+not-over trees l0Sizes runSizes n e k h = simp zero-add at (under trees l0Sizes runSizes 0 0 0 n e k h)

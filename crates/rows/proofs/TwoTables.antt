@@ -1,6 +1,6 @@
 -- Refusals 1 and 2 of trees and jobs together, from those of each by itself.
 use Prim.Native.Nat.{ℕ}
-use mathlib.Core.Path.{_≡_, refl, sym, _∙_}
+use mathlib.Core.Path.{_≡_, refl}
 use mathlib.Core.Bool.{Bool, true, false, _||_}
 use native.Mathlib.Omega.{arith}
 use Rattle.rules.specs.Lists.{_given_else_}

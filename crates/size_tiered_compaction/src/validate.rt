@@ -5,7 +5,7 @@ ghost use mathlib.Core.Option.{some};
 ghost use Prim.Native.Nat.{ℕ, _+_, _-_, _*_, _≤_};
 ghost use lib.ListN.{length, getD};
 ghost use Rattle.rules.specs.Lists.{total};
-ghost use Rattle.rules.specs.Tables.{Ulid, Source, Tree, sameId, idOf};
+ghost use Rattle.rules.specs.Tables.{Ulid, Tree, sameId, idOf};
 ghost use Rattle.rules.specs.Lent.{LentTrees, lentTrees, rowsFrom, treesOf};
 ghost use Rattle.rules.specs.Validation.{startsWith, consecutive, lowestRun, wrongDestination, lentSources, logicalOrder, treeWith, tieredRefusal, lentSpec};
 ghost use Rattle.rules.specs.Calls.{validateCall};
