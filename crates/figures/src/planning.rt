@@ -2,6 +2,7 @@
 use crate::plans::show_plan;
 use crate::print::id;
 use crate::print::text;
+use rows::bounds::wide;
 use rules::Options;
 use rules::PlanAnswer;
 use size_tiered_compaction::plan::plan;
@@ -150,10 +151,10 @@ fn large_sizes(in_root: u32, in_other: u32) {
 // "32 trees pass, 33 refused 1.": trees with nothing in them.
 fn empty_trees(count: usize) {
     let mut trees = [0u32; 96];
-    let mut i: u32 = 0;
-    for k in 0..32 {
-        trees[3 * k] = i;
-        i = if i < 32 { i + 1 } else { i };
+    let mut prefix: u32 = 0;
+    while prefix < 32 {
+        trees[3 * wide(prefix)] = prefix;
+        prefix += 1;
     }
     show_call(
         count,
