@@ -1,5 +1,5 @@
 -- What the passes start from: the rows of the trees that are asked, and the state of the call.
-use Prim.Native.Nat.{ℕ, _≤_, _<_}
+use Prim.Native.Nat.{ℕ, _*_, _≤_, _<_}
 use mathlib.Core.Path.{_≡_, subst, _∙_}
 use mathlib.Core.List.{List, []}
 use native.Mathlib.Omega.{arith}
@@ -7,7 +7,7 @@ use lib.ListN.{length, getD}
 use Rattle.rules.specs.declared.Options.{Options}
 use Rattle.rules.specs.Tables.{Tree}
 use Rattle.rules.specs.Lent.{LentTrees, LentJobs, rowsFrom, treesOf, jobsOf, l0Used, runsUsed}
-use Rattle.rules.specs.Bounds.{maxConcurrent}
+use Rattle.rules.specs.Bounds.{maxTrees, maxConcurrent}
 use Rattle.rules.specs.Limit.{limitOf}
 use Rattle.rules.specs.Plan.{State, start, ordered, freeSlots, firstFresh, passesFrom, planned}
 use Rattle.rules.proofs.Packed.{length-treesOf}
@@ -23,7 +23,7 @@ use Rattle.plan_passes.specs.Passes.{AskedAll, Plans}
 use Rattle.size_tiered_compaction.specs.Proposing.{Ready, Picks}
 
 -- each row names a tree's rows, which are there, whose sums are below 2^64, and beside whose runs stand the chains
-pub asked-row : {o : Options} {t : LentTrees} {j : LentJobs} {lim : ℕ → ℕ} {asked chains : List ℕ} → Ready o t j → length asked ≡ 160
+pub asked-row : {o : Options} {t : LentTrees} {j : LentJobs} {lim : ℕ → ℕ} {asked chains : List ℕ} → Ready o t j → length asked ≡ 5 * maxTrees
     → ((k : ℕ) → k < t .count → OfTree (t .trees) (t .count) asked k) → ChainsFilled lim (t .trees) (t .runSizes) (t .count) chains
     → (k : ℕ) → k < t .count → AskedRow lim asked (t .l0Sizes) (t .runSizes) chains k
 unfolding l0Used runsUsed

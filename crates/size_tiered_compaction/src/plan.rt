@@ -7,6 +7,7 @@ ghost use lib.Dec.{ltb};
 ghost use lib.ListN.{length, getD};
 ghost use Rattle.rules.specs.Lists.{total};
 ghost use Rattle.rules.specs.Lent.{LentTrees, LentJobs, lentTrees, lentJobs, rowsFrom};
+ghost use Rattle.rules.specs.Bounds.{maxConcurrent};
 ghost use Rattle.rules.specs.Planning.{LentPlan, planRefusal};
 ghost use Rattle.rules.specs.Calls.{planCall};
 ghost use Rattle.size_tiered_compaction.specs.Proposing.{lentPlan, planResult, planningRefusal, Lengths, Ready, Picks};
@@ -24,6 +25,10 @@ use plan_start::used::fill_used;
 use rows::bounds::column_sum;
 use rows::tables::tables_refusal;
 use rules::MAX_CONCURRENT;
+use rules::MAX_JOBS;
+use rules::MAX_RUNS;
+use rules::MAX_SOURCES;
+use rules::MAX_TREES;
 use rules::Options;
 use rules::PlanAnswer;
 
@@ -146,8 +151,13 @@ fn plan_refusal(
     )
 }
 
-// The picks of a call that is not refused. The table of used ids has a row for each source and each destination of the jobs
-// (1,024 and 64), and 65 for each of 64 picks.
+// A free slot gives a pick at most, and there are "at most 64 concurrent jobs".
+const MAX_PICKS: usize = 64;
+
+// A row of used ids for each source and each destination of the jobs, and for the 64 sources and the destination of each pick.
+const USED_ROWS: usize = MAX_SOURCES + MAX_JOBS + 65 * MAX_PICKS;
+
+// The picks of a call that is not refused, from the tables that the passes ask.
 fn propose(
     o: Options,
     tree_count: usize,
@@ -164,12 +174,12 @@ fn propose(
     source_views: &[u64],
     picks: &mut [u32],
 ) -> Passes
-    requires { ⌜ (length (now picks) ≡ 320) × Ready o (lentTrees «tree_count» (now trees) [] [] (now «l0_ids») (now «l0_sizes») (now «run_ids») (now «run_sizes»)) (lentJobs «job_count» [] (now «job_marks») (now «job_specs») (now «source_marks») (now «source_runs») (now «source_views»)) ⌝ }
+    requires { ⌜ (length (now picks) ≡ 5 * maxConcurrent) × Ready o (lentTrees «tree_count» (now trees) [] [] (now «l0_ids») (now «l0_sizes») (now «run_ids») (now «run_sizes»)) (lentJobs «job_count» [] (now «job_marks») (now «job_specs») (now «source_marks») (now «source_runs») (now «source_views»)) ⌝ }
     ensures { λ r. ⌜ ((t : LentTrees) (j : LentJobs) → t .count ≡ «tree_count» → t .trees ≡ now (trees .entry) → t .l0Ids ≡ now («l0_ids» .entry) → t .l0Sizes ≡ now («l0_sizes» .entry) → t .runIds ≡ now («run_ids» .entry) → t .runSizes ≡ now («run_sizes» .entry) → j .count ≡ «job_count» → j .jobMarks ≡ now («job_marks» .entry) → j .jobSpecs ≡ now («job_specs» .entry) → j .sourceMarks ≡ now («source_marks» .entry) → j .sourceRuns ≡ now («source_runs» .entry) → j .sourceViews ≡ now («source_views» .entry) → Picks o t j r (now (picks .exit))) ⌝ }
 {
-    let mut asked = [0u32; 160];
-    let mut chains = [0usize; 512];
-    let mut used = [0u64; 20992];
+    let mut asked = [0u32; 5 * MAX_TREES];
+    let mut chains = [0usize; MAX_RUNS];
+    let mut used = [0u64; 4 * USED_ROWS];
     order_trees(tree_count, trees, &mut asked);
     fill_chains(o, tree_count, trees, run_sizes, &mut chains);
     let n = fill_used(
@@ -252,7 +262,7 @@ pub fn plan(
     if refusal != 0 {
         return PlanAnswer::Refused(refusal);
     }
-    let mut picks = [0u32; 320];
+    let mut picks = [0u32; 5 * MAX_PICKS];
     let made = propose(
         o,
         tree_count,

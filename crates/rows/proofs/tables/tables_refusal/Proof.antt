@@ -34,25 +34,33 @@ trees-outside-requires : tie.Need-trees-outside-requires
 trees-outside-requires c κs = search needs
 
 returns : tie.Need-returns
-returns c = trees-out (T (c .before .before .before .before .before .before .before .before .before .before .before .before .before .before .before)) (J (c .before .before .before .before .before .before .before .before .before .before .before .before .before .before .before)) (sym (c .before .trees-outside .ensures (T (c .before .before .before .before .before .before .before .before .before .before .before .before .before .before .before)) refl refl) ∙ c .if1 .taken)
+returns c =
+    let s = c .before .before .before .before .before .before .before .before .before .before .before .before .before .before .before in
+    trees-out (T s) (J s) (sym (c .before .trees-outside .ensures (T s) refl refl) ∙ c .if1 .taken)
 
 jobs-outside-requires : tie.Need-jobs-outside-requires
 jobs-outside-requires c κs = search needs
 
 returns-2 : tie.Need-returns-2
-returns-2 c = jobs-out (T (c .before .before .before .before .before .before .before .before .before .before .before .before .before .before .before .before .before)) (J (c .before .before .before .before .before .before .before .before .before .before .before .before .before .before .before .before .before)) (sym (c .before .before .before .trees-outside .ensures (T (c .before .before .before .before .before .before .before .before .before .before .before .before .before .before .before .before .before)) refl refl) ∙ c .before .before .if1 .left) (sym (c .before .jobs-outside .ensures (J (c .before .before .before .before .before .before .before .before .before .before .before .before .before .before .before .before .before)) refl refl) ∙ c .if2 .taken)
+returns-2 c =
+    let s = c .before .before .before .before .before .before .before .before .before .before .before .before .before .before .before .before .before in
+    jobs-out (T s) (J s) (sym (c .before .before .before .trees-outside .ensures (T s) refl refl) ∙ c .before .before .if1 .left) (sym (c .before .jobs-outside .ensures (J s) refl refl) ∙ c .if2 .taken)
 
 trees-refusal-requires : tie.Need-trees-refusal-requires
 trees-refusal-requires c κs = search needs
 
 returns-3 : tie.Need-returns-3
-returns-3 c = trees-bad (T (c .before .before .before .before .before .before .before .before .before .before .before .before .before .before .before .before .before .before .before)) (J (c .before .before .before .before .before .before .before .before .before .before .before .before .before .before .before .before .before .before .before)) (sym (c .before .before .before .before .before .trees-outside .ensures (T (c .before .before .before .before .before .before .before .before .before .before .before .before .before .before .before .before .before .before .before)) refl refl) ∙ c .before .before .before .before .if1 .left) (sym (c .before .before .before .jobs-outside .ensures (J (c .before .before .before .before .before .before .before .before .before .before .before .before .before .before .before .before .before .before .before)) refl refl) ∙ c .before .before .if2 .left) _ (c .before .trees-refusal .ensures) (c .if3 .taken)
+returns-3 c =
+    let s = c .before .before .before .before .before .before .before .before .before .before .before .before .before .before .before .before .before .before .before in
+    trees-bad (T s) (J s) (sym (c .before .before .before .before .before .trees-outside .ensures (T s) refl refl) ∙ c .before .before .before .before .if1 .left) (sym (c .before .before .before .jobs-outside .ensures (J s) refl refl) ∙ c .before .before .if2 .left) _ (c .before .trees-refusal .ensures) (c .if3 .taken)
 
 jobs-refusal-requires : tie.Need-jobs-refusal-requires
 jobs-refusal-requires c κs = search needs
 
 returns-4 : tie.Need-returns-4
-returns-4 c = jobs-left (T (c .before .before .before .before .before .before .before .before .before .before .before .before .before .before .before .before .before .before .before .before)) (J (c .before .before .before .before .before .before .before .before .before .before .before .before .before .before .before .before .before .before .before .before)) (sym (c .before .before .before .before .before .before .trees-outside .ensures (T (c .before .before .before .before .before .before .before .before .before .before .before .before .before .before .before .before .before .before .before .before)) refl refl) ∙ c .before .before .before .before .before .if1 .left) (sym (c .before .before .before .before .jobs-outside .ensures (J (c .before .before .before .before .before .before .before .before .before .before .before .before .before .before .before .before .before .before .before .before)) refl refl) ∙ c .before .before .before .if2 .left) _ (sym (c .before .before .trees-refusal .ensures) ∙ c .before .if3 .left) (c .jobs-refusal .ensures)
+returns-4 c =
+    let s = c .before .before .before .before .before .before .before .before .before .before .before .before .before .before .before .before .before .before .before .before in
+    jobs-left (T s) (J s) (sym (c .before .before .before .before .before .before .trees-outside .ensures (T s) refl refl) ∙ c .before .before .before .before .before .if1 .left) (sym (c .before .before .before .before .jobs-outside .ensures (J s) refl refl) ∙ c .before .before .before .if2 .left) _ (sym (c .before .before .trees-refusal .ensures) ∙ c .before .if3 .left) (c .jobs-refusal .ensures)
 
 pub tables-refusal-spec : {M : Type 1} → statement M
 tables-refusal-spec =

@@ -41,34 +41,39 @@ plan-refusal-requires : tie.Need-plan-refusal-requires
 plan-refusal-requires c κs = search needs
 
 returns : tie.Need-returns
-returns c = plan-refused _ (T (c .before .before .before .before .before .before .before .before .before .before .before .before .before .before .before .before .before .before .before)) (J (c .before .before .before .before .before .before .before .before .before .before .before .before .before .before .before .before .before .before .before)) (P (c .before .before .before .before .before .before .before .before .before .before .before .before .before .before .before .before .before .before .before)) _ (c .before .plan-refusal .ensures (P (c .before .before .before .before .before .before .before .before .before .before .before .before .before .before .before .before .before .before .before)) (own-lengths (P (c .before .before .before .before .before .before .before .before .before .before .before .before .before .before .before .before .before .before .before)))) (c .if1 .taken)
+returns c =
+    let s = c .before .before .before .before .before .before .before .before .before .before .before .before .before .before .before .before .before .before .before in
+    plan-refused _ (T s) (J s) (P s) _ (c .before .plan-refusal .ensures (P s) (own-lengths (P s))) (c .if1 .taken)
 
 slice-aggregate-propose : tie.Need-slice-aggregate-propose
 slice-aggregate-propose c = search needs
 
 propose-requires : tie.Need-propose-requires
 propose-requires c κs =
-    let none = sym (c .before .before .plan-refusal .ensures (P (c .before .before .before .before .before .before .before .before .before .before .before .before .before .before .before .before .before .before .before .before)) (own-lengths (P (c .before .before .before .before .before .before .before .before .before .before .before .before .before .before .before .before .before .before .before .before)))) ∙ c .before .if1 .left in
-    (search needs, ready _ (T (c .before .before .before .before .before .before .before .before .before .before .before .before .before .before .before .before .before .before .before .before)) (J (c .before .before .before .before .before .before .before .before .before .before .before .before .before .before .before .before .before .before .before .before)) (P (c .before .before .before .before .before .before .before .before .before .before .before .before .before .before .before .before .before .before .before .before)) none)
+    let s = c .before .before .before .before .before .before .before .before .before .before .before .before .before .before .before .before .before .before .before .before in
+    let none = sym (c .before .before .plan-refusal .ensures (P s) (own-lengths (P s))) ∙ c .before .if1 .left in
+    (search needs, ready _ (T s) (J s) (P s) none)
 
 slice-aggregate-lay-specs : tie.Need-slice-aggregate-lay-specs
 slice-aggregate-lay-specs c = search needs
 
 lay-specs-requires : tie.Need-lay-specs-requires
 lay-specs-requires c κs =
-    let none = sym (c .before .before .before .before .before .before .plan-refusal .ensures (P (c .before .before .before .before .before .before .before .before .before .before .before .before .before .before .before .before .before .before .before .before .before .before .before .before)) (own-lengths (P (c .before .before .before .before .before .before .before .before .before .before .before .before .before .before .before .before .before .before .before .before .before .before .before .before)))) ∙ c .before .before .before .before .before .if1 .left in
-    let made = c .before .before .before .propose .ensures (T (c .before .before .before .before .before .before .before .before .before .before .before .before .before .before .before .before .before .before .before .before .before .before .before .before)) (J (c .before .before .before .before .before .before .before .before .before .before .before .before .before .before .before .before .before .before .before .before .before .before .before .before)) refl refl refl refl refl refl refl refl refl refl refl refl in
-    (omega (arith, made .most, c .before .before .before .propose .kept .1 .1 .1 .1 .1 .1 .1 .1 .1 .1 .1 .1 .1 .0), specs-fit _ (T (c .before .before .before .before .before .before .before .before .before .before .before .before .before .before .before .before .before .before .before .before .before .before .before .before)) (J (c .before .before .before .before .before .before .before .before .before .before .before .before .before .before .before .before .before .before .before .before .before .before .before .before)) (P (c .before .before .before .before .before .before .before .before .before .before .before .before .before .before .before .before .before .before .before .before .before .before .before .before)) none made)
+    let s = c .before .before .before .before .before .before .before .before .before .before .before .before .before .before .before .before .before .before .before .before .before .before .before .before in
+    let none = sym (c .before .before .before .before .before .before .plan-refusal .ensures (P s) (own-lengths (P s))) ∙ c .before .before .before .before .before .if1 .left in
+    let made = c .before .before .before .propose .ensures (T s) (J s) refl refl refl refl refl refl refl refl refl refl refl refl in
+    (omega (arith, made .most, c .before .before .before .propose .kept .1 .1 .1 .1 .1 .1 .1 .1 .1 .1 .1 .1 .1 .0), specs-fit _ (T s) (J s) (P s) none made)
 
 slice-aggregate-lay-sources : tie.Need-slice-aggregate-lay-sources
 slice-aggregate-lay-sources c = search needs
 
 lay-sources-requires : tie.Need-lay-sources-requires
 lay-sources-requires c κs =
-    let none = sym (c .before .before .before .before .before .before .before .before .before .before .before .before .before .plan-refusal .ensures (P (c .before .before .before .before .before .before .before .before .before .before .before .before .before .before .before .before .before .before .before .before .before .before .before .before .before .before .before .before .before .before .before)) (own-lengths (P (c .before .before .before .before .before .before .before .before .before .before .before .before .before .before .before .before .before .before .before .before .before .before .before .before .before .before .before .before .before .before .before)))) ∙ c .before .before .before .before .before .before .before .before .before .before .before .before .if1 .left in
-    let made = c .before .before .before .before .before .before .before .before .before .before .propose .ensures (T (c .before .before .before .before .before .before .before .before .before .before .before .before .before .before .before .before .before .before .before .before .before .before .before .before .before .before .before .before .before .before .before)) (J (c .before .before .before .before .before .before .before .before .before .before .before .before .before .before .before .before .before .before .before .before .before .before .before .before .before .before .before .before .before .before .before)) refl refl refl refl refl refl refl refl refl refl refl refl in
-    let g = ready _ (T (c .before .before .before .before .before .before .before .before .before .before .before .before .before .before .before .before .before .before .before .before .before .before .before .before .before .before .before .before .before .before .before)) (J (c .before .before .before .before .before .before .before .before .before .before .before .before .before .before .before .before .before .before .before .before .before .before .before .before .before .before .before .before .before .before .before)) (P (c .before .before .before .before .before .before .before .before .before .before .before .before .before .before .before .before .before .before .before .before .before .before .before .before .before .before .before .before .before .before .before)) none in
-    (omega (arith, made .most, c .before .before .before .before .before .before .before .before .before .before .propose .kept .1 .1 .1 .1 .1 .1 .1 .1 .1 .1 .1 .1 .1 .0), made .within, omega (arith, g .l0Ids), omega (arith, g .runIds), sources-fit _ (T (c .before .before .before .before .before .before .before .before .before .before .before .before .before .before .before .before .before .before .before .before .before .before .before .before .before .before .before .before .before .before .before)) (J (c .before .before .before .before .before .before .before .before .before .before .before .before .before .before .before .before .before .before .before .before .before .before .before .before .before .before .before .before .before .before .before)) (P (c .before .before .before .before .before .before .before .before .before .before .before .before .before .before .before .before .before .before .before .before .before .before .before .before .before .before .before .before .before .before .before)) none made)
+    let s = c .before .before .before .before .before .before .before .before .before .before .before .before .before .before .before .before .before .before .before .before .before .before .before .before .before .before .before .before .before .before .before in
+    let none = sym (c .before .before .before .before .before .before .before .before .before .before .before .before .before .plan-refusal .ensures (P s) (own-lengths (P s))) ∙ c .before .before .before .before .before .before .before .before .before .before .before .before .if1 .left in
+    let made = c .before .before .before .before .before .before .before .before .before .before .propose .ensures (T s) (J s) refl refl refl refl refl refl refl refl refl refl refl refl in
+    let g = ready _ (T s) (J s) (P s) none in
+    (omega (arith, made .most, c .before .before .before .before .before .before .before .before .before .before .propose .kept .1 .1 .1 .1 .1 .1 .1 .1 .1 .1 .1 .1 .1 .0), made .within, omega (arith, g .l0Ids), omega (arith, g .runIds), sources-fit _ (T s) (J s) (P s) none made)
 
 same-length : tie.Need-same-length
 same-length c = c .before .before .before .before .before .before .before .before .before .before .before .before .before .lay-specs .kept .1 .1 .0
@@ -84,9 +89,10 @@ same-length-4 c = c .before .before .before .before .before .before .lay-sources
 
 returns-2 : tie.Need-returns-2
 returns-2 c =
-    let none = sym (c .before .before .before .before .before .before .before .before .before .before .before .before .before .before .before .before .before .before .before .before .plan-refusal .ensures (P (c .before .before .before .before .before .before .before .before .before .before .before .before .before .before .before .before .before .before .before .before .before .before .before .before .before .before .before .before .before .before .before .before .before .before .before .before .before .before)) (own-lengths (P (c .before .before .before .before .before .before .before .before .before .before .before .before .before .before .before .before .before .before .before .before .before .before .before .before .before .before .before .before .before .before .before .before .before .before .before .before .before .before)))) ∙ c .before .before .before .before .before .before .before .before .before .before .before .before .before .before .before .before .before .before .before .if1 .left in
-    let made = c .before .before .before .before .before .before .before .before .before .before .before .before .before .before .before .before .before .propose .ensures (T (c .before .before .before .before .before .before .before .before .before .before .before .before .before .before .before .before .before .before .before .before .before .before .before .before .before .before .before .before .before .before .before .before .before .before .before .before .before .before)) (J (c .before .before .before .before .before .before .before .before .before .before .before .before .before .before .before .before .before .before .before .before .before .before .before .before .before .before .before .before .before .before .before .before .before .before .before .before .before .before)) refl refl refl refl refl refl refl refl refl refl refl refl in
-    plan-laid _ (T (c .before .before .before .before .before .before .before .before .before .before .before .before .before .before .before .before .before .before .before .before .before .before .before .before .before .before .before .before .before .before .before .before .before .before .before .before .before .before)) (J (c .before .before .before .before .before .before .before .before .before .before .before .before .before .before .before .before .before .before .before .before .before .before .before .before .before .before .before .before .before .before .before .before .before .before .before .before .before .before)) (P (c .before .before .before .before .before .before .before .before .before .before .before .before .before .before .before .before .before .before .before .before .before .before .before .before .before .before .before .before .before .before .before .before .before .before .before .before .before .before)) none made (c .before .before .before .before .before .before .before .before .before .before .before .before .before .lay-specs .ensures _ _) (c .before .before .before .before .before .before .lay-sources .ensures)
+    let s = c .before .before .before .before .before .before .before .before .before .before .before .before .before .before .before .before .before .before .before .before .before .before .before .before .before .before .before .before .before .before .before .before .before .before .before .before .before .before in
+    let none = sym (c .before .before .before .before .before .before .before .before .before .before .before .before .before .before .before .before .before .before .before .before .plan-refusal .ensures (P s) (own-lengths (P s))) ∙ c .before .before .before .before .before .before .before .before .before .before .before .before .before .before .before .before .before .before .before .if1 .left in
+    let made = c .before .before .before .before .before .before .before .before .before .before .before .before .before .before .before .before .before .propose .ensures (T s) (J s) refl refl refl refl refl refl refl refl refl refl refl refl in
+    plan-laid _ (T s) (J s) (P s) none made (c .before .before .before .before .before .before .before .before .before .before .before .before .before .lay-specs .ensures _ _) (c .before .before .before .before .before .before .lay-sources .ensures)
 
 pub plan-spec : {M : Type 1} → statement M
 plan-spec =

@@ -32,22 +32,29 @@ J c =
     (c .args .source-views .now)
 
 returns : tie.Need-returns
-returns c = λ p l. many-refused _ (T (c .before .before .before .before .before .before .before .before .before .before .before .before .before .before .before)) (J (c .before .before .before .before .before .before .before .before .before .before .before .before .before .before .before)) p (c .if1 .taken)
+returns c =
+    let s = c .before .before .before .before .before .before .before .before .before .before .before .before .before .before .before in
+    λ p l. many-refused _ (T s) (J s) p (c .if1 .taken)
 
 tables-refusal-requires : tie.Need-tables-refusal-requires
 tables-refusal-requires c κs = search needs
 
 returns-2 : tie.Need-returns-2
-returns-2 c = λ p l. tables-refused _ (T (c .before .before .before .before .before .before .before .before .before .before .before .before .before .before .before .before .before)) (J (c .before .before .before .before .before .before .before .before .before .before .before .before .before .before .before .before .before)) p (c .before .before .if1 .left) _ (c .before .tables-refusal .ensures) (c .if2 .taken)
+returns-2 c =
+    let s = c .before .before .before .before .before .before .before .before .before .before .before .before .before .before .before .before .before in
+    λ p l. tables-refused _ (T s) (J s) p (c .before .before .if1 .left) _ (c .before .tables-refusal .ensures) (c .if2 .taken)
 
 planning-refusal-requires : tie.Need-planning-refusal-requires
 unfolding l0Used runsUsed
 planning-refusal-requires c κs =
-    let g = tables-good (T (c .before .before .before .before .before .before .before .before .before .before .before .before .before .before .before .before .before)) (J (c .before .before .before .before .before .before .before .before .before .before .before .before .before .before .before .before .before)) (sym (c .before .tables-refusal .ensures) ∙ c .if2 .left) in
+    let s = c .before .before .before .before .before .before .before .before .before .before .before .before .before .before .before .before .before in
+    let g = tables-good (T s) (J s) (sym (c .before .tables-refusal .ensures) ∙ c .if2 .left) in
     ((g .0 .within .trees, g .0 .lent .trees, g .0 .lent .l0Sizes, g .0 .lent .runSizes, g .1 .within .jobs, g .1 .lent .jobMarks), (g .0 .within .l0, g .0 .within .runs))
 
 returns-3 : tie.Need-returns-3
-returns-3 c = λ p l. planning-left _ (T (c .before .before .before .before .before .before .before .before .before .before .before .before .before .before .before .before .before .before)) (J (c .before .before .before .before .before .before .before .before .before .before .before .before .before .before .before .before .before .before)) p (c .before .before .before .if1 .left) _ (sym (c .before .before .tables-refusal .ensures) ∙ c .before .if2 .left) (c .planning-refusal .ensures (T (c .before .before .before .before .before .before .before .before .before .before .before .before .before .before .before .before .before .before)) (J (c .before .before .before .before .before .before .before .before .before .before .before .before .before .before .before .before .before .before)) p refl refl refl refl refl refl l)
+returns-3 c =
+    let s = c .before .before .before .before .before .before .before .before .before .before .before .before .before .before .before .before .before .before in
+    λ p l. planning-left _ (T s) (J s) p (c .before .before .before .if1 .left) _ (sym (c .before .before .tables-refusal .ensures) ∙ c .before .if2 .left) (c .planning-refusal .ensures (T s) (J s) p refl refl refl refl refl refl l)
 
 pub plan-refusal-spec : {M : Type 1} → statement M
 plan-refusal-spec =
