@@ -2,3 +2,6 @@
 pub mod Table
 pub mod Adopted
 pub mod Clashes
+pub mod Merged
+pub mod Flagged
+pub mod Plans

@@ -9,6 +9,8 @@ pub mod ReadBack
 pub mod Lookups
 pub mod Refusals
 pub mod Bounds
+pub mod Ulids
+pub mod Inserting
 pub mod Digits
 pub mod Nearest
 pub mod Rounding
