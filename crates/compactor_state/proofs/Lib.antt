@@ -5,3 +5,6 @@ pub mod Clashes
 pub mod Merged
 pub mod Flagged
 pub mod Plans
+pub mod Taking
+pub mod Answered
+pub mod MergeCall
