@@ -1,16 +1,16 @@
 -- The call `merge`: each of its answers is one case of `mergeCall`.
-use Prim.Native.Nat.{ℕ, _+_, _*_, _≤_, _<_}
+use Prim.Native.Nat.{ℕ, _+_, _*_}
 use mathlib.Core.Path.{_≡_, refl, sym, ap, ap₂, _∙_}
 use mathlib.Core.List.{List}
-use mathlib.Core.Bool.{Bool, true, false, cond, _&&_, _||_, not}
+use mathlib.Core.Bool.{Bool, true, false, cond, _&&_, _||_}
 use native.Mathlib.Nat.{zero-add}
 use native.Mathlib.Omega.{arith}
 use lib.Dec.{eqb, leb}
-use lib.ListN.{length, getD}
+use lib.ListN.{getD}
 use borrow.Author.Tests.{leb-true}
 use Rattle.rules.specs.declared.JobsAnswer.the-variants.{Jobs, Refused}
 use Rattle.rules.specs.Lists.{all, linked, total, _given_else_}
-use Rattle.rules.specs.Tables.{ulidBelow, Job}
+use Rattle.rules.specs.Tables.{ulidBelow}
 use Rattle.rules.specs.Lent.{LentJobs, rowsFrom, ulidAt, sourceCount, sourcesUsed, jobsOf, layJobs}
 use Rattle.rules.specs.Bounds.{isMark, goodJob, goodJobs, jobsOutside, jobsMisshapen, jobsRefusal}
 use Rattle.rules.specs.Jobs.{merged, tooMany, mergeRefusal}

@@ -1,7 +1,7 @@
 -- Merging: which local jobs stay and which remote ones are adopted is known from the two tables as they were; the jobs after
 -- the merge are those that stay, with the adopted ones put at their places one after the other.
-use Prim.Native.Nat.{ℕ, suc, _+_}
-use mathlib.Core.Path.{_≡_, refl, sym, ap, ap₂, _∙_, subst, subst₂, fun-ext}
+use Prim.Native.Nat.{_+_}
+use mathlib.Core.Path.{_≡_, refl, sym, ap, _∙_, subst, subst₂, fun-ext}
 use mathlib.Core.List.{List, [], _∷_}
 use mathlib.Core.Bool.{Bool, true, false, cond, _&&_, _||_, not, true≢false}
 use mathlib.Core.Option.{Option, some, none}
@@ -9,13 +9,13 @@ use native.Mathlib.Omega.{arith}
 use borrow.Author.Tests.{not-true}
 use lib.Dec.{ltb}
 use lib.ListN.{length, length-append}
-use Rattle.rules.specs.Lists.{any, all, keep, firstWith, concatMap}
+use Rattle.rules.specs.Lists.{all, keep, firstWith, concatMap}
 use Rattle.rules.specs.Tables.{Ulid, sameUlid, ulidBelow, Job}
 use Rattle.rules.specs.Lent.{sourcesOf}
 use Rattle.rules.specs.Bounds.{maxJobs, maxSources}
 use Rattle.rules.specs.Jobs.{jobWith, inserted, adopts, merged, tooMany}
 use Rattle.compactor_state.specs.Merge.{adopted, notTaken, stays, insertedAll, allNew}
-use Rattle.rules.proofs.Lookups.{and-left, and-right, same-ulid, ulid-same, ulid-ids, first-none}
+use Rattle.rules.proofs.Lookups.{and-left, and-right, same-ulid, ulid-ids, first-none}
 use Rattle.rules.proofs.Ulids.{below-other}
 use Rattle.rules.proofs.Inserting.{keep-same, keep-all, none-kept, rising, hasId, allAbove, rising-rest, rising-first, above-absent, length-inserted, entries-inserted, rising-inserted, found-other, keep-inserted}
 

@@ -1,17 +1,17 @@
 -- Taking the remote jobs that have a flag, one by one: what is there and what is left to take make the merged jobs.
-use Prim.Native.Nat.{ℕ, zero, suc, _+_, _-_, _*_, _≤_, _<_, max}
-use mathlib.Core.Path.{_≡_, refl, sym, ap, ap₂, _∙_, subst}
+use Prim.Native.Nat.{ℕ, zero, suc, _+_, _-_, _*_, _≤_, _<_}
+use mathlib.Core.Path.{_≡_, refl, sym, ap, _∙_}
 use mathlib.Core.List.{List, [], _∷_, map}
-use mathlib.Core.Bool.{Bool, true, false, cond, _&&_, _||_, not, true≢false}
+use mathlib.Core.Bool.{Bool, true, false, cond, _&&_, not, true≢false}
 use native.Mathlib.Nat.{zero-add, sub-zero}
 use native.Mathlib.Omega.{arith}
 use lib.Dec.{ltb}
-use lib.ListN.{length, getD, take, drop, length-take, length-drop, length-map}
+use lib.ListN.{length, getD, take, drop, length-drop, length-map}
 use lib.Seq.{getD-take, getD-drop, length-take-le}
 use borrow.Author.Tests.{not-true, ltb-false}
-use Rattle.rules.specs.Lists.{any, keep, concatMap, total}
-use Rattle.rules.specs.Tables.{sameUlid, Source, Job}
-use Rattle.rules.specs.Lent.{LentJobs, rowsFrom, ulidAt, sourceAt, sourceCount, sourcesUsed, jobAt, jobsFrom, jobsOf, sourcesOf, laid, layJobs, ulidWords, jobMarkWords, jobSpecWords}
+use Rattle.rules.specs.Lists.{keep, concatMap}
+use Rattle.rules.specs.Tables.{Source, Job}
+use Rattle.rules.specs.Lent.{LentJobs, rowsFrom, sourceAt, sourceCount, sourcesUsed, jobAt, jobsFrom, jobsOf, sourcesOf, laid, layJobs, ulidWords, jobMarkWords, jobSpecWords}
 use Rattle.rules.specs.Bounds.{maxJobs, maxSources}
 use Rattle.rules.specs.Validation.{lentSources}
 use Rattle.rules.specs.Jobs.{jobOf, inserted, merged, tooMany}

@@ -1,16 +1,10 @@
--- `compactor_state::merge::merge` meets its contract. Assumes nothing.
+-- `merge` meets its contract: each return is one case of `mergeCall` (MergeCall.antt).
 use borrow.Author.Needs.{needs}
-use mathlib.Core.Path.{refl, sym, _∙_, _≡_}
+use mathlib.Core.Path.{sym, _∙_}
 use Rattle.rules.specs.Lent.{LentJobs, lentJobs}
 use Rattle.compactor_state.proofs.MergeCall.{refused-early, refused-full, merge-done, merge-ready, plan-asks, has-rows}
 use Rattle.compactor_state.proofs.merge.merge.Statement.{statement}
 use Rattle.compactor_state.proofs.merge.merge.Tie as tie
-use Rattle.compactor_state.proofs.merge.merge.Reads as reads
-use Rattle.compactor_state.proofs.merge.merge.Lts as lts
-use Rattle.compactor_state.proofs.merge.either_refusal.Reads as either-refusal-reads
-use Rattle.compactor_state.proofs.merge.merge_rows.Reads as merge-rows-reads
-use Rattle.compactor_state.proofs.merging.plan_merge.Reads as plan-merge-reads
-use Rattle.rows.proofs.jobs.jobs_refusal.Reads as jobs-refusal-reads
 
 -- the two tables as they are lent
 abbrev L : tie.Start → LentJobs
@@ -35,111 +29,84 @@ R c =
     (c .args .remote-source-runs .now)
     (c .args .remote-source-views .now)
 
--- src/merge.rt:208:9
 jobs-refusal-requires : tie.Need-jobs-refusal-requires
 jobs-refusal-requires c κs = search needs
 
--- src/merge.rt:217:9
 jobs-refusal-requires-2 : tie.Need-jobs-refusal-requires-2
 jobs-refusal-requires-2 c κs = search needs
 
--- src/merge.rt:226:9
 either-refusal-requires : tie.Need-either-refusal-requires
 either-refusal-requires c κs = search needs
 
--- src/merge.rt:228:9
 same-length : tie.Need-same-length
 same-length c = search needs
 
--- src/merge.rt:228:9
 same-length-2 : tie.Need-same-length-2
 same-length-2 c = search needs
 
--- src/merge.rt:228:9
 same-length-3 : tie.Need-same-length-3
 same-length-3 c = search needs
 
--- src/merge.rt:228:9
 same-length-4 : tie.Need-same-length-4
 same-length-4 c = search needs
 
--- src/merge.rt:228:9
 same-length-5 : tie.Need-same-length-5
 same-length-5 c = search needs
 
--- src/merge.rt:228:9
 same-length-6 : tie.Need-same-length-6
 same-length-6 c = search needs
 
--- src/merge.rt:228:9
 returns : tie.Need-returns
 returns c = refused-early (L (c .before .before .before .before .before .before .before .before .before .before .before .before .before .before .before .before .before .before .before .before .before .before)) (R (c .before .before .before .before .before .before .before .before .before .before .before .before .before .before .before .before .before .before .before .before .before .before)) _ (c .before .either-refusal .ensures (L (c .before .before .before .before .before .before .before .before .before .before .before .before .before .before .before .before .before .before .before .before .before .before)) (R (c .before .before .before .before .before .before .before .before .before .before .before .before .before .before .before .before .before .before .before .before .before .before)) (c .before .before .before .jobs-refusal .ensures) (c .before .before .jobs-refusal2 .ensures)) (c .if1 .taken)
 
--- src/merge.rt:230:9
 plan-merge-requires : tie.Need-plan-merge-requires
 plan-merge-requires c κs = plan-asks (L (c .before .before .before .before .before .before .before .before .before .before .before .before .before .before .before .before .before .before .before .before .before .before .before .before .before)) (R (c .before .before .before .before .before .before .before .before .before .before .before .before .before .before .before .before .before .before .before .before .before .before .before .before .before)) (sym (c .before .before .before .before .either-refusal .ensures (L (c .before .before .before .before .before .before .before .before .before .before .before .before .before .before .before .before .before .before .before .before .before .before .before .before .before)) (R (c .before .before .before .before .before .before .before .before .before .before .before .before .before .before .before .before .before .before .before .before .before .before .before .before .before)) (c .before .before .before .before .before .before .jobs-refusal .ensures) (c .before .before .before .before .before .jobs-refusal2 .ensures)) ∙ c .before .before .before .if1 .left)
 
--- src/merge.rt:242:9
 same-length-7 : tie.Need-same-length-7
 same-length-7 c = search needs
 
--- src/merge.rt:242:9
 same-length-8 : tie.Need-same-length-8
 same-length-8 c = search needs
 
--- src/merge.rt:242:9
 same-length-9 : tie.Need-same-length-9
 same-length-9 c = search needs
 
--- src/merge.rt:242:9
 same-length-10 : tie.Need-same-length-10
 same-length-10 c = search needs
 
--- src/merge.rt:242:9
 same-length-11 : tie.Need-same-length-11
 same-length-11 c = search needs
 
--- src/merge.rt:242:9
 same-length-12 : tie.Need-same-length-12
 same-length-12 c = search needs
 
--- src/merge.rt:242:9
 returns-2 : tie.Need-returns-2
 returns-2 c = refused-full (L (c .before .before .before .before .before .before .before .before .before .before .before .before .before .before .before .before .before .before .before .before .before .before .before .before .before .before .before)) (R (c .before .before .before .before .before .before .before .before .before .before .before .before .before .before .before .before .before .before .before .before .before .before .before .before .before .before .before)) (sym (c .before .before .before .before .before .before .either-refusal .ensures (L (c .before .before .before .before .before .before .before .before .before .before .before .before .before .before .before .before .before .before .before .before .before .before .before .before .before .before .before)) (R (c .before .before .before .before .before .before .before .before .before .before .before .before .before .before .before .before .before .before .before .before .before .before .before .before .before .before .before)) (c .before .before .before .before .before .before .before .before .jobs-refusal .ensures) (c .before .before .before .before .before .before .before .jobs-refusal2 .ensures)) ∙ c .before .before .before .before .before .if1 .left) (c .before .plan-merge .ensures (L (c .before .before .before .before .before .before .before .before .before .before .before .before .before .before .before .before .before .before .before .before .before .before .before .before .before .before .before)) (R (c .before .before .before .before .before .before .before .before .before .before .before .before .before .before .before .before .before .before .before .before .before .before .before .before .before .before .before)) (has-rows (L (c .before .before .before .before .before .before .before .before .before .before .before .before .before .before .before .before .before .before .before .before .before .before .before .before .before .before .before))) (has-rows (R (c .before .before .before .before .before .before .before .before .before .before .before .before .before .before .before .before .before .before .before .before .before .before .before .before .before .before .before)))) (c .if2 .taken)
 
--- src/merge.rt:262:9
 slice-aggregate-merge-rows : tie.Need-slice-aggregate-merge-rows
 slice-aggregate-merge-rows c = search needs
 
--- src/merge.rt:246:9
 merge-rows-requires : tie.Need-merge-rows-requires
 merge-rows-requires c κs = merge-ready (L (c .before .before .before .before .before .before .before .before .before .before .before .before .before .before .before .before .before .before .before .before .before .before .before .before .before .before .before .before .before .before .before .before .before .before .before .before .before)) (R (c .before .before .before .before .before .before .before .before .before .before .before .before .before .before .before .before .before .before .before .before .before .before .before .before .before .before .before .before .before .before .before .before .before .before .before .before .before)) (sym (c .before .before .before .before .before .before .before .before .before .before .before .before .before .before .before .before .either-refusal .ensures (L (c .before .before .before .before .before .before .before .before .before .before .before .before .before .before .before .before .before .before .before .before .before .before .before .before .before .before .before .before .before .before .before .before .before .before .before .before .before)) (R (c .before .before .before .before .before .before .before .before .before .before .before .before .before .before .before .before .before .before .before .before .before .before .before .before .before .before .before .before .before .before .before .before .before .before .before .before .before)) (c .before .before .before .before .before .before .before .before .before .before .before .before .before .before .before .before .before .before .jobs-refusal .ensures) (c .before .before .before .before .before .before .before .before .before .before .before .before .before .before .before .before .before .jobs-refusal2 .ensures)) ∙ c .before .before .before .before .before .before .before .before .before .before .before .before .before .before .before .if1 .left) (c .before .before .before .before .before .before .before .before .before .before .before .plan-merge .ensures (L (c .before .before .before .before .before .before .before .before .before .before .before .before .before .before .before .before .before .before .before .before .before .before .before .before .before .before .before .before .before .before .before .before .before .before .before .before .before)) (R (c .before .before .before .before .before .before .before .before .before .before .before .before .before .before .before .before .before .before .before .before .before .before .before .before .before .before .before .before .before .before .before .before .before .before .before .before .before)) (has-rows (L (c .before .before .before .before .before .before .before .before .before .before .before .before .before .before .before .before .before .before .before .before .before .before .before .before .before .before .before .before .before .before .before .before .before .before .before .before .before))) (has-rows (R (c .before .before .before .before .before .before .before .before .before .before .before .before .before .before .before .before .before .before .before .before .before .before .before .before .before .before .before .before .before .before .before .before .before .before .before .before .before)))) (c .before .before .before .before .before .before .before .before .before .before .if2 .left)
 
--- src/merge.rt:190:1
 same-length-13 : tie.Need-same-length-13
 same-length-13 c = search needs
 
--- src/merge.rt:190:1
 same-length-14 : tie.Need-same-length-14
 same-length-14 c = search needs
 
--- src/merge.rt:190:1
 same-length-15 : tie.Need-same-length-15
 same-length-15 c = search needs
 
--- src/merge.rt:190:1
 same-length-16 : tie.Need-same-length-16
 same-length-16 c = search needs
 
--- src/merge.rt:190:1
 same-length-17 : tie.Need-same-length-17
 same-length-17 c = search needs
 
--- src/merge.rt:190:1
 same-length-18 : tie.Need-same-length-18
 same-length-18 c = search needs
 
--- src/merge.rt:190:1
 returns-3 : tie.Need-returns-3
 returns-3 c = merge-done (L (c .before .before .before .before .before .before .before .before .before .before .before .before .before .before .before .before .before .before .before .before .before .before .before .before .before .before .before .before .before .before .before .before .before .before .before .before .before .before .before .before .before .before .before .before .before .before .before .before .before .before)) (R (c .before .before .before .before .before .before .before .before .before .before .before .before .before .before .before .before .before .before .before .before .before .before .before .before .before .before .before .before .before .before .before .before .before .before .before .before .before .before .before .before .before .before .before .before .before .before .before .before .before .before)) (sym (c .before .before .before .before .before .before .before .before .before .before .before .before .before .before .before .before .before .before .before .before .before .before .before .before .before .before .before .before .before .either-refusal .ensures (L (c .before .before .before .before .before .before .before .before .before .before .before .before .before .before .before .before .before .before .before .before .before .before .before .before .before .before .before .before .before .before .before .before .before .before .before .before .before .before .before .before .before .before .before .before .before .before .before .before .before .before)) (R (c .before .before .before .before .before .before .before .before .before .before .before .before .before .before .before .before .before .before .before .before .before .before .before .before .before .before .before .before .before .before .before .before .before .before .before .before .before .before .before .before .before .before .before .before .before .before .before .before .before .before)) (c .before .before .before .before .before .before .before .before .before .before .before .before .before .before .before .before .before .before .before .before .before .before .before .before .before .before .before .before .before .before .before .jobs-refusal .ensures) (c .before .before .before .before .before .before .before .before .before .before .before .before .before .before .before .before .before .before .before .before .before .before .before .before .before .before .before .before .before .before .jobs-refusal2 .ensures)) ∙ c .before .before .before .before .before .before .before .before .before .before .before .before .before .before .before .before .before .before .before .before .before .before .before .before .before .before .before .before .if1 .left) (c .before .before .before .before .before .before .before .before .before .before .before .before .before .before .before .before .before .before .before .before .before .before .before .before .plan-merge .ensures (L (c .before .before .before .before .before .before .before .before .before .before .before .before .before .before .before .before .before .before .before .before .before .before .before .before .before .before .before .before .before .before .before .before .before .before .before .before .before .before .before .before .before .before .before .before .before .before .before .before .before .before)) (R (c .before .before .before .before .before .before .before .before .before .before .before .before .before .before .before .before .before .before .before .before .before .before .before .before .before .before .before .before .before .before .before .before .before .before .before .before .before .before .before .before .before .before .before .before .before .before .before .before .before .before)) (has-rows (L (c .before .before .before .before .before .before .before .before .before .before .before .before .before .before .before .before .before .before .before .before .before .before .before .before .before .before .before .before .before .before .before .before .before .before .before .before .before .before .before .before .before .before .before .before .before .before .before .before .before .before))) (has-rows (R (c .before .before .before .before .before .before .before .before .before .before .before .before .before .before .before .before .before .before .before .before .before .before .before .before .before .before .before .before .before .before .before .before .before .before .before .before .before .before .before .before .before .before .before .before .before .before .before .before .before .before)))) _ (c .before .before .before .before .before .before .before .before .before .before .before .before .before .before .before .before .before .before .before .before .before .before .before .if2 .left) (c .before .before .before .before .before .before .before .before .before .before .before .before .merge-rows .ensures)
 

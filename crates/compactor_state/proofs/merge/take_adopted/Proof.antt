@@ -1,4 +1,5 @@
--- `compactor_state::merge::take_adopted` meets its contract. Assumes nothing.
+-- `take_adopted` meets its contract: the invariant is that the jobs that are there and those left to take make the same jobs as at the start
+-- (`TakingFrom`).
 use borrow.Author.Needs.{needs}
 use native.Mathlib.Omega.{arith}
 use mathlib.Core.Path.{sym, _∙_}
@@ -7,10 +8,6 @@ use Rattle.rules.specs.Lent.{lentJobs}
 use Rattle.compactor_state.proofs.Taking.{TakingFrom, taking-starts, can-take, taking-next, taking-ends}
 use Rattle.compactor_state.proofs.merge.take_adopted.Statement.{statement}
 use Rattle.compactor_state.proofs.merge.take_adopted.Tie as tie
-use Rattle.compactor_state.proofs.merge.take_adopted.Reads as reads
-use Rattle.compactor_state.proofs.merge.take_adopted.Lts as lts
-use Rattle.compactor_state.proofs.merge.take_at.Reads as take-at-reads
-use Rattle.rows.proofs.bounds.wide.Reads as wide-reads
 
 abbrev Inv-loop : tie.InvT-loop
 Inv-loop job-count job-ids₀ job-marks₀ job-specs₀ source-marks₀ source-runs₀ source-views₀ remote-count remote-ids remote-marks remote-specs remote-source-marks remote-source-runs remote-source-views taken count₀ at₀ i₀ job-ids job-marks job-specs source-marks source-runs source-views count at i = TakingFrom (lentJobs job-count job-ids₀ job-marks₀ job-specs₀ source-marks₀ source-runs₀ source-views₀) (lentJobs remote-count remote-ids remote-marks remote-specs remote-source-marks remote-source-runs remote-source-views) taken i at (lentJobs count job-ids job-marks job-specs source-marks source-runs source-views)
@@ -18,75 +15,57 @@ Inv-loop job-count job-ids₀ job-marks₀ job-specs₀ source-marks₀ source-r
 abbrev μ-loop : tie.MeasureT-loop
 μ-loop job-count job-ids₀ job-marks₀ job-specs₀ source-marks₀ source-runs₀ source-views₀ remote-count remote-ids remote-marks remote-specs remote-source-marks remote-source-runs remote-source-views taken count₀ at₀ i₀ job-ids job-marks job-specs source-marks source-runs source-views count at i = remote-count - i
 
--- src/merge.rt:92:5
 loop-holds : tie.Need-loop-holds Inv-loop μ-loop
 loop-holds c = taking-starts ((c .before .before .before .before .before .before .before .before .before .before .before .before) .pre)
 
--- src/merge.rt:93:9
 take-at-requires : tie.Need-take-at-requires Inv-loop μ-loop
 take-at-requires c κs = can-take ((c .before .before .before .before .before .before .before .before .before .before .before .before .before .before .before .before .before .before .before .before) .pre) (c .before .before .before .before .before .before .before .loop .inv) (c .before .before .before .before .before .before .loop-test .taken)
 
--- src/merge.rt:112:33
 mul-wide : tie.Need-mul-wide Inv-loop μ-loop
 mul-wide c = omega (arith, (c .before .before .before .before .before .before .before .before .before .before .before .before .before .before .before .before .before .before .before .before .before .before .before .before .before .before .before .before .before .before .before .before .before) .pre .there .jobs)
 
--- src/merge.rt:112:33
 add-wide : tie.Need-add-wide Inv-loop μ-loop
 add-wide c = omega (arith, (c .before .before .before .before .before .before .before .before .before .before .before .before .before .before .before .before .before .before .before .before .before .before .before .before .before .before .before .before .before .before .before .before .before) .pre .there .jobs)
 
--- src/merge.rt:112:20
 mul-wide-2 : tie.Need-mul-wide-2 Inv-loop μ-loop
 mul-wide-2 c = omega (arith, (c .before .before .before .before .before .before .before .before .before .before .before .before .before .before .before .before .before .before .before .before .before .before .before .before .before .before .before .before .before .before .before .before .before) .pre .there .jobs)
 
--- src/merge.rt:112:20
 shared-slice-read-wide : tie.Need-shared-slice-read-wide Inv-loop μ-loop
 shared-slice-read-wide c = omega (arith, (c .before .before .before .before .before .before .before .before .before .before .before .before .before .before .before .before .before .before .before .before .before .before .before .before .before .before .before .before .before .before .before .before .before .before) .pre .there .jobs, (c .before .before .before .before .before .before .before .before .before .before .before .before .before .before .before .before .before .before .before .before .before .before .before .before .before .before .before .before .before .before .before .before .before .before) .pre .there .jobSpecs)
 
--- src/merge.rt:112:15
 wide-requires : tie.Need-wide-requires Inv-loop μ-loop
 wide-requires c κs = search needs
 
--- src/merge.rt:112:9
 add-at : tie.Need-add-at Inv-loop μ-loop
 add-at c = omega (arith, can-take ((c .before .before .before .before .before .before .before .before .before .before .before .before .before .before .before .before .before .before .before .before .before .before .before .before .before .before .before .before .before .before .before .before .before .before .before) .pre) (c .before .before .before .before .before .before .before .before .before .before .before .before .before .before .before .before .before .before .before .before .before .before .loop .inv) (c .before .before .before .before .before .before .before .before .before .before .before .before .before .before .before .before .before .before .before .before .before .loop-test .taken) .entries, c .wide .ensures)
 
--- src/merge.rt:113:9
 add-i : tie.Need-add-i Inv-loop μ-loop
 add-i c = omega (arith, (c .before .before .before .before .before .before .before .before .before .before .before .before .before .before .before .before .before .before .before .before .before .before .before .before .before .before .before .before .before .before .before .before .before .before .before) .pre .there .jobs)
 
--- src/merge.rt:92:5
 loop-less : tie.Need-loop-less Inv-loop μ-loop
 loop-less c = omega arith
 
--- src/merge.rt:92:5
 loop-again : tie.Need-loop-again Inv-loop μ-loop
 loop-again c = taking-next ((c .before .before .before .before .before .before .before .before .before .before .before .before .before .before .before .before .before .before .before .before .before .before .before .before .before .before .before .before .before .before .before .before .before .before .before) .pre) (c .before .before .before .before .before .before .before .before .before .before .before .before .before .before .before .before .before .before .before .before .before .before .loop .inv) (c .before .before .before .before .before .before .before .before .before .before .before .before .before .before .before .before .before .before .before .before .before .loop-test .taken) (c .before .before .before .before .before .before .before .before .before .before .before .before .before .before .take-at .ensures) (c .wide .ensures)
 
--- src/merge.rt:69:1
 same-length : tie.Need-same-length Inv-loop μ-loop
 same-length c = c .before .loop .inv .room .jobIds ∙ sym ((c .before .before .before .before .before .before .before .before .before .before .before .before .before .before) .pre .here .jobIds)
 
--- src/merge.rt:69:1
 same-length-2 : tie.Need-same-length-2 Inv-loop μ-loop
 same-length-2 c = c .before .loop .inv .room .jobMarks ∙ sym ((c .before .before .before .before .before .before .before .before .before .before .before .before .before .before) .pre .here .jobMarks)
 
--- src/merge.rt:69:1
 same-length-3 : tie.Need-same-length-3 Inv-loop μ-loop
 same-length-3 c = c .before .loop .inv .room .jobSpecs ∙ sym ((c .before .before .before .before .before .before .before .before .before .before .before .before .before .before) .pre .here .jobSpecs)
 
--- src/merge.rt:69:1
 same-length-4 : tie.Need-same-length-4 Inv-loop μ-loop
 same-length-4 c = c .before .loop .inv .room .sourceMarks ∙ sym ((c .before .before .before .before .before .before .before .before .before .before .before .before .before .before) .pre .here .sourceMarks)
 
--- src/merge.rt:69:1
 same-length-5 : tie.Need-same-length-5 Inv-loop μ-loop
 same-length-5 c = c .before .loop .inv .room .sourceRuns ∙ sym ((c .before .before .before .before .before .before .before .before .before .before .before .before .before .before) .pre .here .sourceRuns)
 
--- src/merge.rt:69:1
 same-length-6 : tie.Need-same-length-6 Inv-loop μ-loop
 same-length-6 c = c .before .loop .inv .room .sourceViews ∙ sym ((c .before .before .before .before .before .before .before .before .before .before .before .before .before .before) .pre .here .sourceViews)
 
--- src/merge.rt:69:1
 returns : tie.Need-returns Inv-loop μ-loop
 returns c = taking-ends ((c .before .before .before .before .before .before .before .before .before .before .before .before .before .before) .pre) (c .before .loop .inv) (c .loop-test .left)
 

@@ -1,4 +1,4 @@
--- `compactor_state::merge::take_at` meets its contract. Assumes nothing.
+-- `take_at` meets its contract: the parts of the remote slices that it lends are the job's source entries (`part-put`).
 use borrow.Author.Needs.{needs}
 use native.Mathlib.Omega.{arith}
 use mathlib.Core.Path.{refl, ap}
@@ -7,10 +7,6 @@ use Rattle.rules.specs.Lent.{LentJobs, lentJobs}
 use Rattle.compactor_state.proofs.Taking.{took-none, part-room, part-put}
 use Rattle.compactor_state.proofs.merge.take_at.Statement.{statement}
 use Rattle.compactor_state.proofs.merge.take_at.Tie as tie
-use Rattle.compactor_state.proofs.merge.take_at.Reads as reads
-use Rattle.compactor_state.proofs.merge.take_at.Lts as lts
-use Rattle.job_rows.proofs.insert.insert_job.Reads as insert-job-reads
-use Rattle.rows.proofs.bounds.wide.Reads as wide-reads
 
 -- the two tables as they are lent
 abbrev L : tie.Start → LentJobs
@@ -35,195 +31,147 @@ R c =
     (c .args .remote-source-runs .now)
     (c .args .remote-source-views .now)
 
--- src/merge.rt:35:8
 element-copy-out-if1 : tie.Need-element-copy-out-if1
 element-copy-out-if1 c = search needs
 
--- src/merge.rt:36:9
 returns : tie.Need-returns
 returns c = took-none (c .if1 .taken)
 
--- src/merge.rt:38:38
 mul-wide : tie.Need-mul-wide
 mul-wide c = search needs
 
--- src/merge.rt:38:38
 add-wide : tie.Need-add-wide
 add-wide c = search needs
 
--- src/merge.rt:38:25
 mul-wide-2 : tie.Need-mul-wide-2
 mul-wide-2 c = search needs
 
--- src/merge.rt:38:25
 shared-slice-read-wide : tie.Need-shared-slice-read-wide
 shared-slice-read-wide c = search needs
 
--- src/merge.rt:38:20
 wide-requires : tie.Need-wide-requires
 wide-requires c κs = search needs
 
--- src/merge.rt:38:15
 add-end : tie.Need-add-end
 add-end c = search needs
 
--- src/merge.rt:39:16
 mul-from : tie.Need-mul-from
 mul-from c = search needs
 
--- src/merge.rt:40:14
 mul-to : tie.Need-mul-to
 mul-to c = search needs
 
--- src/merge.rt:49:20
 mul-insert-job : tie.Need-mul-insert-job
 mul-insert-job c = search needs
 
--- src/merge.rt:49:9
 mul-insert-job-2 : tie.Need-mul-insert-job-2
 mul-insert-job-2 c = search needs
 
--- src/merge.rt:49:9
 shared-slice-read-insert-job : tie.Need-shared-slice-read-insert-job
 shared-slice-read-insert-job c = search needs
 
--- src/merge.rt:50:20
 mul-insert-job-3 : tie.Need-mul-insert-job-3
 mul-insert-job-3 c = search needs
 
--- src/merge.rt:50:20
 add-insert-job : tie.Need-add-insert-job
 add-insert-job c = search needs
 
--- src/merge.rt:50:9
 mul-insert-job-4 : tie.Need-mul-insert-job-4
 mul-insert-job-4 c = search needs
 
--- src/merge.rt:50:9
 shared-slice-read-insert-job-2 : tie.Need-shared-slice-read-insert-job-2
 shared-slice-read-insert-job-2 c = search needs
 
--- src/merge.rt:51:22
 mul-insert-job-5 : tie.Need-mul-insert-job-5
 mul-insert-job-5 c = search needs
 
--- src/merge.rt:51:9
 shared-slice-read-insert-job-3 : tie.Need-shared-slice-read-insert-job-3
 shared-slice-read-insert-job-3 c = search needs
 
--- src/merge.rt:52:22
 mul-insert-job-6 : tie.Need-mul-insert-job-6
 mul-insert-job-6 c = search needs
 
--- src/merge.rt:52:22
 add-insert-job-2 : tie.Need-add-insert-job-2
 add-insert-job-2 c = search needs
 
--- src/merge.rt:52:9
 shared-slice-read-insert-job-4 : tie.Need-shared-slice-read-insert-job-4
 shared-slice-read-insert-job-4 c = search needs
 
--- src/merge.rt:53:22
 mul-insert-job-7 : tie.Need-mul-insert-job-7
 mul-insert-job-7 c = search needs
 
--- src/merge.rt:53:9
 mul-insert-job-8 : tie.Need-mul-insert-job-8
 mul-insert-job-8 c = search needs
 
--- src/merge.rt:53:9
 shared-slice-read-insert-job-5 : tie.Need-shared-slice-read-insert-job-5
 shared-slice-read-insert-job-5 c = search needs
 
--- src/merge.rt:54:22
 mul-insert-job-9 : tie.Need-mul-insert-job-9
 mul-insert-job-9 c = search needs
 
--- src/merge.rt:54:22
 add-insert-job-3 : tie.Need-add-insert-job-3
 add-insert-job-3 c = search needs
 
--- src/merge.rt:54:9
 mul-insert-job-10 : tie.Need-mul-insert-job-10
 mul-insert-job-10 c = search needs
 
--- src/merge.rt:54:9
 shared-slice-read-insert-job-6 : tie.Need-shared-slice-read-insert-job-6
 shared-slice-read-insert-job-6 c = search needs
 
--- src/merge.rt:55:9
 sub-insert-job : tie.Need-sub-insert-job
 sub-insert-job c = search needs
 
--- src/merge.rt:55:9
 part-insert-job-start : tie.Need-part-insert-job-start
 part-insert-job-start c = search needs
 
--- src/merge.rt:55:9
 part-insert-job-end : tie.Need-part-insert-job-end
 part-insert-job-end c = search needs
 
--- src/merge.rt:56:9
 mul-insert-job-11 : tie.Need-mul-insert-job-11
 mul-insert-job-11 c = search needs
 
--- src/merge.rt:56:9
 sub-insert-job-2 : tie.Need-sub-insert-job-2
 sub-insert-job-2 c = search needs
 
--- src/merge.rt:56:9
 part-insert-job-start-2 : tie.Need-part-insert-job-start-2
 part-insert-job-start-2 c = search needs
 
--- src/merge.rt:56:9
 part-insert-job-end-2 : tie.Need-part-insert-job-end-2
 part-insert-job-end-2 c = search needs
 
--- src/merge.rt:57:9
 mul-insert-job-12 : tie.Need-mul-insert-job-12
 mul-insert-job-12 c = omega (arith, (c .before .before .before .before .before .before .before .before .before .before .before .before .before .before .before .before .before .before .before .before .before .before .before .before .before .before .before .before .before .before) .pre .entries)
 
--- src/merge.rt:57:9
 sub-insert-job-3 : tie.Need-sub-insert-job-3
 sub-insert-job-3 c = search needs
 
--- src/merge.rt:57:9
 part-insert-job-start-3 : tie.Need-part-insert-job-start-3
 part-insert-job-start-3 c = search needs
 
--- src/merge.rt:57:9
 part-insert-job-end-3 : tie.Need-part-insert-job-end-3
 part-insert-job-end-3 c = omega (arith, (c .before .before .before .before .before .before .before .before .before .before .before .before .before .before .before .before .before .before .before .before .before .before .before .before .before .before .before .before .before .before) .pre .entries, (c .before .before .before .before .before .before .before .before .before .before .before .before .before .before .before .before .before .before .before .before .before .before .before .before .before .before .before .before .before .before) .pre .there .sourceViews, c .before .before .before .before .before .before .before .before .before .before .before .before .before .before .wide .ensures)
 
--- src/merge.rt:41:5
 insert-job-requires : tie.Need-insert-job-requires
 insert-job-requires c κs = part-room (L (c .before .before .before .before .before .before .before .before .before .before .before .before .before .before .before .before .before .before .before .before .before .before .before .before .before .before .before .before .before .before .before)) (R (c .before .before .before .before .before .before .before .before .before .before .before .before .before .before .before .before .before .before .before .before .before .before .before .before .before .before .before .before .before .before .before)) ((c .before .before .before .before .before .before .before .before .before .before .before .before .before .before .before .before .before .before .before .before .before .before .before .before .before .before .before .before .before .before .before) .pre) (c .before .before .before .before .before .before .before .before .before .before .before .before .before .before .before .before .before .if1 .left) (ap (λ (n : ℕ). (c .before .before .before .before .before .before .before .before .before .before .before .before .before .before .before .before .before .before .before .before .before .before .before .before .before .before .before .before .before .before .before) .args .at + n) (c .before .before .before .before .before .before .before .before .before .before .before .before .before .before .before .wide .ensures)) refl refl
 
--- src/merge.rt:13:1
 same-length : tie.Need-same-length
 same-length c = search needs
 
--- src/merge.rt:13:1
 same-length-2 : tie.Need-same-length-2
 same-length-2 c = search needs
 
--- src/merge.rt:13:1
 same-length-3 : tie.Need-same-length-3
 same-length-3 c = search needs
 
--- src/merge.rt:13:1
 same-length-4 : tie.Need-same-length-4
 same-length-4 c = search needs
 
--- src/merge.rt:13:1
 same-length-5 : tie.Need-same-length-5
 same-length-5 c = search needs
 
--- src/merge.rt:13:1
 same-length-6 : tie.Need-same-length-6
 same-length-6 c = search needs
 
--- src/merge.rt:13:1
 returns-2 : tie.Need-returns-2
 returns-2 c = part-put (L (c .before .before .before .before .before .before .before .before .before .before .before .before .before .before .before .before .before .before .before .before .before .before .before .before .before .before .before .before .before .before .before .before .before .before .before .before .before .before .before .before .before .before .before .before)) (R (c .before .before .before .before .before .before .before .before .before .before .before .before .before .before .before .before .before .before .before .before .before .before .before .before .before .before .before .before .before .before .before .before .before .before .before .before .before .before .before .before .before .before .before .before)) ((c .before .before .before .before .before .before .before .before .before .before .before .before .before .before .before .before .before .before .before .before .before .before .before .before .before .before .before .before .before .before .before .before .before .before .before .before .before .before .before .before .before .before .before .before) .pre) (c .before .before .before .before .before .before .before .before .before .before .before .before .before .before .before .before .before .before .before .before .before .before .before .before .before .before .before .before .before .before .if1 .left) (ap (λ (n : ℕ). (c .before .before .before .before .before .before .before .before .before .before .before .before .before .before .before .before .before .before .before .before .before .before .before .before .before .before .before .before .before .before .before .before .before .before .before .before .before .before .before .before .before .before .before .before) .args .at + n) (c .before .before .before .before .before .before .before .before .before .before .before .before .before .before .before .before .before .before .before .before .before .before .before .before .before .before .before .before .wide .ensures)) refl refl (c .before .before .before .before .before .before .before .before .before .before .before .before .insert-job .ensures)
 
