@@ -2,3 +2,9 @@
 pub mod Table
 pub mod Adopted
 pub mod Clashes
+pub mod Merged
+pub mod Flagged
+pub mod Plans
+pub mod Taking
+pub mod Answered
+pub mod MergeCall

@@ -1,2 +1,5 @@
 -- What the contracts of the job rules cite beside document 01's definitions.
 pub mod Clash
+pub mod Merge
+pub mod Taking
+pub mod Answers

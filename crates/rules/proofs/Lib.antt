@@ -11,6 +11,8 @@ pub mod Rising
 pub mod Refusals
 pub mod Passes
 pub mod Bounds
+pub mod Ulids
+pub mod Inserting
 pub mod Digits
 pub mod Nearest
 pub mod Rounding
