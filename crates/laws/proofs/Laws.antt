@@ -13,8 +13,10 @@ use Rattle.laws.proofs.ReadsBack.{reads-back, keeps-lengths}
 use Rattle.laws.proofs.Validates.{validates}
 use Rattle.laws.proofs.PlanLaid.{plan-laid}
 use Rattle.laws.proofs.PlanCall.{demand3-call, proposed, has-places}
-use Rattle.laws.proofs.KeptJobs.{added, merges, retains}
-use Rattle.laws.proofs.KeptTrees.{status-set, one-tree, finished-stays, tree-finished, drained-stays, tree-drained}
+use Rattle.laws.proofs.Adding.{added}
+use Rattle.laws.proofs.Merging.{merges}
+use Rattle.laws.proofs.Retention.{retains}
+use Rattle.laws.proofs.Ending.{status-set, one-tree, finished-stays, tree-finished, drained-stays, tree-drained}
 use Rattle.laws.proofs.NothingLost.{add-keeps, merge-keeps, retain-keeps, finish-keeps, drain-keeps}
 use Rattle.laws.proofs.NoSecondAnswer.{no-second-answer}
 

@@ -1,5 +1,6 @@
 -- Demand 3 is proved in two halves that meet in Passes: a tree's picks follow its own list (Used to Own), and dealing from
 -- lists in turns has the totals and shares that are asked for (Deal). What else is proved of plans, every pick keeps.
+-- What is proved of jobs (JobIds to NothingLost) goes by their rising ids.
 pub mod Used
 pub mod Windows
 pub mod Picks
@@ -22,8 +23,11 @@ pub mod Rising
 pub mod NamesOnce
 pub mod PlanCall
 pub mod PlanLaid
-pub mod KeptJobs
-pub mod KeptTrees
+pub mod JobIds
+pub mod Adding
+pub mod Merging
+pub mod Retention
+pub mod Ending
 pub mod NothingLost
 pub mod NoSecondAnswer
 pub mod Laws
