@@ -1,5 +1,4 @@
 -- Jobs whose ids rise, as refusal 2 has it: the first is below all others, and a job is known by its id.
-use Prim.Native.Nat.{_-_}
 use mathlib.Core.Path.{_≡_, refl, ap, ap₂}
 use mathlib.Core.List.{List, [], _∷_}
 use mathlib.Core.Bool.{Bool, true, false, _&&_}

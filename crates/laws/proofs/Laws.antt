@@ -18,6 +18,7 @@ use Rattle.laws.proofs.Merging.{merges}
 use Rattle.laws.proofs.Retention.{retains}
 use Rattle.laws.proofs.Ending.{status-set, one-tree, finished-stays, tree-finished, drained-stays, tree-drained}
 use Rattle.laws.proofs.NothingLost.{add-keeps, merge-keeps, retain-keeps, finish-keeps, drain-keeps}
+use Rattle.laws.proofs.NextCall.{add-next, merge-next, retain-next}
 use Rattle.laws.proofs.NoSecondAnswer.{no-second-answer}
 
 pub laws : Laws
@@ -48,5 +49,8 @@ laws = record {
   retainKeeps = retain-keeps;
   finishKeeps = finish-keeps;
   drainKeeps = drain-keeps;
+  addNext = add-next;
+  mergeNext = merge-next;
+  retainNext = retain-next;
   noSecondAnswer = no-second-answer;
 }

@@ -29,5 +29,6 @@ pub mod Merging
 pub mod Retention
 pub mod Ending
 pub mod NothingLost
+pub mod NextCall
 pub mod NoSecondAnswer
 pub mod Laws

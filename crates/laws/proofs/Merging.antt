@@ -1,5 +1,4 @@
 -- Merging, id by id: no remote id comes twice, so that each is settled by its own record.
-use Prim.Native.Nat.{_-_}
 use mathlib.Core.Path.{_≡_, refl, sym, ap, _∙_, subst}
 use mathlib.Core.Logic.{_⊎_, inl, inr}
 use mathlib.Core.List.{List, [], _∷_}

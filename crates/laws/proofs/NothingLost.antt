@@ -34,7 +34,7 @@ add-lays : (t : LentJobs) (j : LentJob) → addRefusal t j ≡ 0 → jobsOf (add
 unfolding addCall
 add-lays t j h = rw h (jobs-back t (inserted (jobOf j) (jobsOf t)))
 
-add-good : (t : LentJobs) (j : LentJob) → addRefusal t j ≡ 0 → (goodJobs (jobsOf t) ≡ true) × (goodJob (jobOf j) ≡ true)
+pub add-good : (t : LentJobs) (j : LentJob) → addRefusal t j ≡ 0 → (goodJobs (jobsOf t) ≡ true) × (goodJob (jobOf j) ≡ true)
 unfolding addRefusal
 add-good t j h =
     let shapely = passed 1 (jobsMisshapen t || jobMisshapen j) _ (passed 0 (jobsOutside t) _ h .1) .0 in
@@ -49,7 +49,7 @@ merge-lays : (t r : LentJobs) → mergeRefusal t r ≡ 0 → jobsOf (mergeCall t
 unfolding mergeCall
 merge-lays t r h = rw h (jobs-back t (merged (jobsOf t) (jobsOf r)))
 
-merge-good : (t r : LentJobs) → mergeRefusal t r ≡ 0 → (goodJobs (jobsOf t) ≡ true) × (goodJobs (jobsOf r) ≡ true)
+pub merge-good : (t r : LentJobs) → mergeRefusal t r ≡ 0 → (goodJobs (jobsOf t) ≡ true) × (goodJobs (jobsOf r) ≡ true)
 unfolding mergeRefusal
 merge-good t r h =
     let shapely = passed 1 (jobsMisshapen t || jobsMisshapen r) _ (passed 0 (jobsOutside t || jobsOutside r) _ h .1) .0 in
