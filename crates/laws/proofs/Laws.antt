@@ -19,6 +19,7 @@ use Rattle.laws.proofs.Retention.{retains}
 use Rattle.laws.proofs.Ending.{status-set, one-tree, finished-stays, tree-finished, drained-stays, tree-drained}
 use Rattle.laws.proofs.NothingLost.{add-keeps, merge-keeps, retain-keeps, finish-keeps, drain-keeps}
 use Rattle.laws.proofs.NextCall.{add-next, merge-next, retain-next}
+use Rattle.laws.proofs.NextEnded.{finish-next, drain-next}
 use Rattle.laws.proofs.NoSecondAnswer.{no-second-answer}
 
 pub laws : Laws
@@ -52,5 +53,7 @@ laws = record {
   addNext = add-next;
   mergeNext = merge-next;
   retainNext = retain-next;
+  finishNext = finish-next;
+  drainNext = drain-next;
   noSecondAnswer = no-second-answer;
 }

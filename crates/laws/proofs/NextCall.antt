@@ -31,7 +31,7 @@ not-refused : (t : LentJobs) → jobsOutside t ≡ false → jobsMisshapen t ≡
 unfolding jobsRefusal
 not-refused t inside shapely = rw (inside, shapely)
 
-taken : (t : LentJobs) → t .count ≤ maxJobs → sourcesUsed t ≤ maxSources → JobsLent t → goodJobs (jobsOf t) ≡ true → jobsRefusal t ≡ 0
+pub taken : (t : LentJobs) → t .count ≤ maxJobs → sourcesUsed t ≤ maxSources → JobsLent t → goodJobs (jobsOf t) ≡ true → jobsRefusal t ≡ 0
 unfolding jobsOutside jobsMisshapen jobsAtCapacity
 taken t few short lent good =
     not-refused t (rw (le-ltb maxJobs (t .count) few, le-ltb maxSources (sourcesUsed t) short))

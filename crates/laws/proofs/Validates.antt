@@ -41,7 +41,7 @@ found-one {A} p {x} (List·Memᴰ·tail {x = y} {xs} m) h = go (p y) refl (found
     go false e r = (r .0, List·Memᴰ·tail (r .1), r .2, r .3)
 
 -- no prefix twice, so the tree of a prefix is the one that has it
-tree-found : {t : Tree} {ts : List Tree} → Apart ts → List·Memᴰ t ts → (k : ℕ) → k ≡ t .prefix → treeWith k ts ≡ some t
+pub tree-found : {t : Tree} {ts : List Tree} → Apart ts → List·Memᴰ t ts → (k : ℕ) → k ≡ t .prefix → treeWith k ts ≡ some t
 tree-found {t} {ts} d m k e =
     let r = found-one (λ c. eqb (c .prefix) k) m (eq-eqb (t .prefix) k (sym e)) in
     r .3 ∙ ap some (apart-same d m (r .1) (eqb-true (r .0 .prefix) k (r .2) ∙ e))

@@ -12,5 +12,6 @@ pub mod Validates
 pub mod PlanCall
 pub mod PlanLaid
 pub mod NothingLost
+pub mod NextCall
 pub mod NoSecondAnswer
 pub mod Laws
