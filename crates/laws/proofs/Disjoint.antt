@@ -16,19 +16,12 @@ use Rattle.rules.specs.Pick.{Spec, specUses, also, Picked, pick, andOn, ownFirs
 use Rattle.rules.specs.Plan.{State, withPick, firstFresh, freeSlots, ordered, start, planned, ownListOf}
 use Rattle.rules.proofs.Appended.{any-append, all-append}
 use Rattle.rules.proofs.Lookups.{and-left, and-right}
-use Rattle.rules.proofs.Rising.{all-weaker}
+use Rattle.rules.proofs.Sorted.{all-weaker, all-none}
 use Rattle.laws.specs.Disjoint.{isFree, sharing, Disjoint}
 use Rattle.laws.proofs.Used.{unused, plus, unused-plus}
 use Rattle.laws.proofs.Picks.{pick-prefix, pick-free}
 use Rattle.laws.proofs.Distinct.{distinct-last}
 use Rattle.laws.proofs.Passes.{call-keeps}
-
-module _ {A : Type 0} (p q : A → Bool) where
-  -- what a test rules out holds of none
-  all-none : ((x : A) → p x ≡ true → q x ≡ false) → (xs : List A) → all p xs ≡ true → any q xs ≡ false
-  unfolding all any
-  all-none w [] h = refl
-  all-none w (x ∷ xs) h = ap₂ _||_ (w x (and-left (p x) (all p xs) h)) (all-none w xs (and-right (p x) (all p xs) h))
 
 -- unused by a test: the test holds of none
 unused-any : (u : SourceId → Bool) (xs : List SourceId) → unused u xs ≡ true → any u xs ≡ false

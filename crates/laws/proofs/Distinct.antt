@@ -22,17 +22,17 @@ module _ {A : Type 0} (p : A → Bool) where
 
 module _ {A : Type 0} (same : A → A → Bool) where
   -- the first is none of the others, and these are distinct
-  first-apart : (x : A) (xs : List A) → distinct same (x ∷ xs) ≡ true → any (same x) xs ≡ false
+  pub first-apart : (x : A) (xs : List A) → distinct same (x ∷ xs) ≡ true → any (same x) xs ≡ false
   unfolding distinct
   first-apart x xs h = not-true _ (and-left (not (any (same x) xs)) (distinct same xs) h)
 
   -- the others are distinct
-  rest-distinct : (x : A) (xs : List A) → distinct same (x ∷ xs) ≡ true → distinct same xs ≡ true
+  pub rest-distinct : (x : A) (xs : List A) → distinct same (x ∷ xs) ≡ true → distinct same xs ≡ true
   unfolding distinct
   rest-distinct x xs h = and-right (not (any (same x) xs)) (distinct same xs) h
 
   -- and back
-  distinct-cons : (x : A) (xs : List A) → any (same x) xs ≡ false → distinct same xs ≡ true → distinct same (x ∷ xs) ≡ true
+  pub distinct-cons : (x : A) (xs : List A) → any (same x) xs ≡ false → distinct same xs ≡ true → distinct same (x ∷ xs) ≡ true
   unfolding distinct
   distinct-cons x xs h k = rw (h, k)
 

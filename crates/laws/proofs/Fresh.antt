@@ -66,7 +66,7 @@ committed-below ts js h t m = above-below (firstFresh ts js) (idsOf (t .runs)) (
 -- ---- the runs of active jobs
 
 -- a kept entry was there, and passed the test
-keep-mem : {A : Type 0} (p : A → Bool) {x : A} (xs : List A) → List·Memᴰ x (keep p xs) → List·Memᴰ x xs × (p x ≡ true)
+pub keep-mem : {A : Type 0} (p : A → Bool) {x : A} (xs : List A) → List·Memᴰ x (keep p xs) → List·Memᴰ x xs × (p x ≡ true)
 unfolding keep
 keep-mem p [] m = absurd (List·Memᴰ·not-nil m)
 keep-mem {A} p {x} (y ∷ ys) m = go (p y) refl m (keep-mem p ys)

@@ -13,9 +13,13 @@ use Rattle.laws.proofs.ReadsBack.{reads-back, keeps-lengths}
 use Rattle.laws.proofs.Validates.{validates}
 use Rattle.laws.proofs.PlanLaid.{plan-laid}
 use Rattle.laws.proofs.PlanCall.{demand3-call, proposed, has-places}
-use Rattle.laws.proofs.KeptJobs.{added, merges, retains}
-use Rattle.laws.proofs.KeptTrees.{status-set, one-tree, finished-stays, tree-finished, drained-stays, tree-drained}
+use Rattle.laws.proofs.Adding.{added}
+use Rattle.laws.proofs.Merging.{merges}
+use Rattle.laws.proofs.Retention.{retains}
+use Rattle.laws.proofs.Ending.{status-set, one-tree, finished-stays, tree-finished, drained-stays, tree-drained}
 use Rattle.laws.proofs.NothingLost.{add-keeps, merge-keeps, retain-keeps, finish-keeps, drain-keeps}
+use Rattle.laws.proofs.NextCall.{add-next, merge-next, retain-next}
+use Rattle.laws.proofs.NextEnded.{finish-next, drain-next}
 use Rattle.laws.proofs.NoSecondAnswer.{no-second-answer}
 
 pub laws : Laws
@@ -46,5 +50,10 @@ laws = record {
   retainKeeps = retain-keeps;
   finishKeeps = finish-keeps;
   drainKeeps = drain-keeps;
+  addNext = add-next;
+  mergeNext = merge-next;
+  retainNext = retain-next;
+  finishNext = finish-next;
+  drainNext = drain-next;
   noSecondAnswer = no-second-answer;
 }

@@ -1,5 +1,7 @@
 -- Demand 3 is proved in two halves that meet in Passes: a tree's picks follow its own list (Used to Own), and dealing from
 -- lists in turns has the totals and shares that are asked for (Deal). What else is proved of plans, every pick keeps.
+-- What is proved of the other calls goes by rising job ids (JobIds to NothingLost) and by refusal 2's rules, which they keep
+-- (GoodTrees to NextEnded).
 pub mod Used
 pub mod Windows
 pub mod Picks
@@ -22,8 +24,15 @@ pub mod Rising
 pub mod NamesOnce
 pub mod PlanCall
 pub mod PlanLaid
-pub mod KeptJobs
-pub mod KeptTrees
+pub mod JobIds
+pub mod Adding
+pub mod Merging
+pub mod Retention
+pub mod Ending
 pub mod NothingLost
+pub mod GoodTrees
+pub mod Sound
+pub mod NextCall
+pub mod NextEnded
 pub mod NoSecondAnswer
 pub mod Laws

@@ -2,32 +2,30 @@
 use Prim.Native.Nat.{ℕ}
 use mathlib.Core.Path.{_≡_, refl, sym, ap, _∙_, subst}
 use mathlib.Core.List.{List}
-use mathlib.Core.Bool.{true, false, _&&_, _||_}
+use mathlib.Core.Bool.{true, false, _||_}
 use mathlib.Core.Option.{Option, some, none}
 use lib.Dec.{eqb}
 use borrow.Author.Tests.{eqb-true, not-false}
 use Rattle.rules.specs.Tables.{Ulid, Run, Tree, Job}
 use Rattle.rules.specs.Lent.{LentTrees, LentJobs, treesOf, jobsOf}
-use Rattle.rules.specs.Bounds.{jobsOutside, jobsAtCapacity, goodJob, goodJobs, jobsMisshapen, lengthsAgree}
+use Rattle.rules.specs.Bounds.{jobsOutside, goodJob, goodJobs, jobsMisshapen, lengthsAgree}
 use Rattle.rules.specs.Validation.{treeWith}
 use Rattle.rules.specs.Jobs.{LentJob, jobOf, jobWith, inserted, jobMisshapen, merged, retained, addRefusal, mergeRefusal, retainRefusal}
 use Rattle.rules.specs.Finish.{inTree, finishTree, drainTree, finishRefusal, drainRefusal}
 use Rattle.rules.specs.Calls.{FinishResult, marksAt, finishedIn, finishedFor, finishBy, addCall, mergeCall, retainCall, finishCall, drainCall}
 use Rattle.rules.proofs.Lookups.{and-right, or-left, or-right, found-has}
-use Rattle.rules.proofs.Bounds.{jobs-good}
+use Rattle.rules.proofs.Bounds.{jobs-good, jobs-rules}
 use Rattle.rules.proofs.ReadBack.{trees-back, jobs-back}
 use Rattle.rules.proofs.Refusals.{passed, finish-there, drain-there}
 use Rattle.laws.specs.NothingLost.{Added, Merged, Retained, OneTree, StatusSet, TreeFinished, TreeDrained, Ended, withMarks}
-use Rattle.laws.proofs.KeptJobs.{added, merges, retains}
-use Rattle.laws.proofs.KeptTrees.{status-set, marks-read, one-tree, finished-stays, tree-finished, drained-stays, tree-drained}
+use Rattle.laws.proofs.Adding.{added}
+use Rattle.laws.proofs.Merging.{merges}
+use Rattle.laws.proofs.Retention.{retains}
+use Rattle.laws.proofs.Ending.{status-set, marks-read, one-tree, finished-stays, tree-finished, drained-stays, tree-drained}
 
 -- ---- jobs
 
--- jobs that are not refused 2 keep its rules
-jobs-shapely : (t : LentJobs) → jobsMisshapen t ≡ false → goodJobs (jobsOf t) ≡ true
-unfolding jobsMisshapen
-jobs-shapely t h = and-right (jobsAtCapacity t) (goodJobs (jobsOf t)) (not-false (jobsAtCapacity t && goodJobs (jobsOf t)) h)
-
+-- a job that is not refused 2 keeps its rules
 job-shapely : (j : LentJob) → jobMisshapen j ≡ false → goodJob (jobOf j) ≡ true
 unfolding jobMisshapen
 job-shapely j h = and-right (lengthsAgree (j .marks) (j .runs) (j .views)) (goodJob (jobOf j)) (not-false _ h)
@@ -36,11 +34,11 @@ add-lays : (t : LentJobs) (j : LentJob) → addRefusal t j ≡ 0 → jobsOf (add
 unfolding addCall
 add-lays t j h = rw h (jobs-back t (inserted (jobOf j) (jobsOf t)))
 
-add-good : (t : LentJobs) (j : LentJob) → addRefusal t j ≡ 0 → (goodJobs (jobsOf t) ≡ true) × (goodJob (jobOf j) ≡ true)
+pub add-good : (t : LentJobs) (j : LentJob) → addRefusal t j ≡ 0 → (goodJobs (jobsOf t) ≡ true) × (goodJob (jobOf j) ≡ true)
 unfolding addRefusal
 add-good t j h =
     let shapely = passed 1 (jobsMisshapen t || jobMisshapen j) _ (passed 0 (jobsOutside t) _ h .1) .0 in
-    (jobs-shapely t (or-left (jobsMisshapen t) (jobMisshapen j) shapely), job-shapely j (or-right (jobsMisshapen t) (jobMisshapen j) shapely))
+    (jobs-rules t (or-left (jobsMisshapen t) (jobMisshapen j) shapely), job-shapely j (or-right (jobsMisshapen t) (jobMisshapen j) shapely))
 
 pub add-keeps : (t : LentJobs) (j : LentJob) → addRefusal t j ≡ 0 → Added (jobOf j) (jobsOf t) (jobsOf (addCall t j .jobs))
 add-keeps t j h =
@@ -51,11 +49,11 @@ merge-lays : (t r : LentJobs) → mergeRefusal t r ≡ 0 → jobsOf (mergeCall t
 unfolding mergeCall
 merge-lays t r h = rw h (jobs-back t (merged (jobsOf t) (jobsOf r)))
 
-merge-good : (t r : LentJobs) → mergeRefusal t r ≡ 0 → (goodJobs (jobsOf t) ≡ true) × (goodJobs (jobsOf r) ≡ true)
+pub merge-good : (t r : LentJobs) → mergeRefusal t r ≡ 0 → (goodJobs (jobsOf t) ≡ true) × (goodJobs (jobsOf r) ≡ true)
 unfolding mergeRefusal
 merge-good t r h =
     let shapely = passed 1 (jobsMisshapen t || jobsMisshapen r) _ (passed 0 (jobsOutside t || jobsOutside r) _ h .1) .0 in
-    (jobs-shapely t (or-left (jobsMisshapen t) (jobsMisshapen r) shapely), jobs-shapely r (or-right (jobsMisshapen t) (jobsMisshapen r) shapely))
+    (jobs-rules t (or-left (jobsMisshapen t) (jobsMisshapen r) shapely), jobs-rules r (or-right (jobsMisshapen t) (jobsMisshapen r) shapely))
 
 pub merge-keeps : (t r : LentJobs) → mergeRefusal t r ≡ 0 → Merged (jobsOf t) (jobsOf r) (jobsOf (mergeCall t r .jobs))
 merge-keeps t r h =

@@ -1,20 +1,20 @@
 -- Demand 3 of the public call: an accepted call meets the first premises of demand 3, and answers with the plan.
 use Prim.Native.Nat.{_≤_}
 use mathlib.Core.Path.{_≡_, ap₂}
-use mathlib.Core.List.{map}
-use mathlib.Core.Bool.{Bool, true, false, _&&_, _||_}
-use lib.Dec.{eqb, leb, ltb}
+use mathlib.Core.List.{List}
+use mathlib.Core.Bool.{true, false, _&&_, _||_}
+use lib.Dec.{leb, ltb}
 use borrow.Author.Tests.{leb-true, not-false}
 use Rattle.rules.specs.declared.Options.{Options}
 use Rattle.rules.specs.declared.PlanAnswer.the-variants.{Planned}
-use Rattle.rules.specs.Lists.{all, distinct}
-use Rattle.rules.specs.Tables.{sameUlid}
-use Rattle.rules.specs.Lent.{LentTrees, LentJobs, treesOf, jobsOf, l0Of, runsOf}
-use Rattle.rules.specs.Bounds.{maxConcurrent, treesOutside, jobsOutside, treesAtCapacity, firstIsRoot, fallingIds, goodMarks, goodTrees, treesMisshapen, jobsMisshapen}
+use Rattle.rules.specs.Tables.{Tree}
+use Rattle.rules.specs.Lent.{LentTrees, LentJobs, treesOf, jobsOf}
+use Rattle.rules.specs.Bounds.{maxConcurrent, treesOutside, jobsOutside, goodTrees, treesMisshapen, jobsMisshapen}
 use Rattle.rules.specs.Limit.{limitOf}
 use Rattle.rules.specs.Plan.{freeSlots}
 use Rattle.rules.specs.Planning.{LentPlan, badOptions, sizesOver, planTooSmall, planRefusal}
 use Rattle.rules.specs.Calls.{planCall}
+use Rattle.rules.proofs.Bounds.{trees-rules, by-rules}
 use Rattle.rules.proofs.Packed.{length-treesOf}
 use Rattle.rules.proofs.Refusals.{passed}
 use Rattle.rules.proofs.Lookups.{and-left, and-right, or-left}
@@ -28,34 +28,9 @@ use Rattle.laws.proofs.Shapes.{shapes}
 use Rattle.laws.proofs.NamesOnce.{names-once}
 use Rattle.laws.proofs.PlanFits.{plan-has-places}
 
--- the parts of the rules on trees
-second-fourth-fifth : (a b c d e f : Bool) → a && b && c && d && e && f ≡ true → (b ≡ true) × (d ≡ true) × (e ≡ true)
-second-fourth-fifth a b c d e f h =
-    let five = and-left (a && b && c && d && e) f h in
-    let four = and-left (a && b && c && d) e five in
-    let two = and-left (a && b) c (and-left (a && b && c) d four) in
-    (and-right a b two, and-right (a && b && c) d four, and-right (a && b && c && d) e five)
-
--- trees that are not refused 2 keep its rules
-good-trees : (t : LentTrees) → treesMisshapen t ≡ false → goodTrees (treesOf t) ≡ true
-unfolding treesMisshapen
-good-trees t h = and-right (treesAtCapacity t) (goodTrees (treesOf t)) (not-false (treesAtCapacity t && goodTrees (treesOf t)) h)
-
 -- "a prefix twice" is refused, and "a run id or L0 view id twice anywhere"
-rows-once : (t : LentTrees) → treesMisshapen t ≡ false → RowsOnce (treesOf t)
-unfolding goodTrees
-rows-once t h =
-    let ts = treesOf t in
-    let parts =
-    second-fourth-fifth
-    (firstIsRoot ts)
-    (distinct eqb (map (λ x. x .prefix) ts))
-    (all (λ x. fallingIds (x .runs)) ts)
-    (distinct eqb (map (λ r. r .id) (runsOf ts)))
-    (distinct sameUlid (map (λ v. v .view) (l0Of ts)))
-    (all goodMarks ts)
-    (good-trees t h) in
-    record { prefixes = parts .0; runs = parts .1; views = parts .2 }
+rows-once : (ts : List Tree) → goodTrees ts ≡ true → RowsOnce ts
+rows-once ts h = let rules = by-rules ts h in record { prefixes = rules .prefixes; runs = rules .runs; views = rules .views }
 
 -- not 1 ≤ min ≤ max is refused
 good-bounds : (o : Options) → badOptions o ≡ false → (1 ≤ o .min) × (o .min ≤ o .max)
@@ -89,8 +64,8 @@ module _ (o : Options) (t : LentTrees) (j : LentJobs) (p : LentPlan) where
       record {
         inside = or-left (treesOutside t) (jobsOutside j) (or-left (treesOutside t || jobsOutside j) (ltb maxConcurrent (o .concurrent)) (h₁ .0));
         shapely = shapely;
-        trees = good-trees t shapely;
-        once = rows-once t shapely;
+        trees = trees-rules t shapely;
+        once = rows-once (treesOf t) (trees-rules t shapely);
         least = bounds .0;
         most = bounds .1;
         places = passed 4 (planTooSmall (freeSlots o (jobsOf j)) t p) 0 (h₄ .1) .0;

@@ -77,7 +77,7 @@ unshared s r h e {x} {y} m n =
     (Memᴰ·append-left (sortedRun (s .destination) ∷ []) m)
 
 -- ---- two trees
-map-concat : {A B C : Type 0} (g : B → C) (f : A → List B) (xs : List A)
+pub map-concat : {A B C : Type 0} (g : B → C) (f : A → List B) (xs : List A)
     → map g (concatMap f xs) ≡ concatMap (λ x. map g (f x)) xs
 unfolding concatMap
 map-concat g f [] = refl

@@ -4,20 +4,20 @@ use Prim.Native.Nat.{ℕ, _-_, _≤_, min}
 use mathlib.Core.Path.{_≡_, refl, sym, ap, _∙_}
 use mathlib.Core.Logic.{_⊎_, inl, inr}
 use mathlib.Core.List.{List, [], _∷_, _++_, map, map-append, append-assoc, List·Memᴰ, List·Memᴰ·head, List·Memᴰ·tail}
-use mathlib.Core.Bool.{Bool, true, false, cond, _&&_, not, or-true}
+use mathlib.Core.Bool.{Bool, true, false, cond, not, or-true}
 use mathlib.Core.Option.{Option, some, none}
 use native.Mathlib.Omega.{arith}
 use lib.Dec.{eqb, ltb}
 use lib.ListN.{length, take, drop, take-append-drop}
 use borrow.Author.Tests.{eq-eqb, eqb-true, le-leb, ltb-true}
 use Rattle.rules.specs.declared.Options.{Options}
-use Rattle.rules.specs.Lists.{all, firstWith, linked, distinct}
-use Rattle.rules.specs.Tables.{SourceId, sortedRun, L0Row, Run, Tree, Job, sameUlid, runId, viewId}
-use Rattle.rules.specs.Lent.{l0Of, runsOf}
-use Rattle.rules.specs.Bounds.{firstIsRoot, fallingIds, goodMarks, goodTrees}
+use Rattle.rules.specs.Lists.{firstWith, linked}
+use Rattle.rules.specs.Tables.{SourceId, sortedRun, L0Row, Run, Tree, Job, runId, viewId}
+use Rattle.rules.specs.Bounds.{fallingIds, goodTrees}
 use Rattle.rules.specs.Windows.{last}
 use Rattle.rules.specs.Pick.{Spec, idsOf}
 use Rattle.rules.specs.Validation.{logicalOrder, startsWith, consecutive, lower, lowestRun, wrongDestination, treeWith, isEmpty, tieredRefusal}
+use Rattle.rules.proofs.Bounds.{by-rules}
 use Rattle.rules.proofs.Lookups.{and-left, and-right}
 use Rattle.laws.specs.Shapes.{OfRows, OfRuns, Made}
 use Rattle.laws.specs.Validates.{Validates}
@@ -41,7 +41,7 @@ found-one {A} p {x} (List·Memᴰ·tail {x = y} {xs} m) h = go (p y) refl (found
     go false e r = (r .0, List·Memᴰ·tail (r .1), r .2, r .3)
 
 -- no prefix twice, so the tree of a prefix is the one that has it
-tree-found : {t : Tree} {ts : List Tree} → Apart ts → List·Memᴰ t ts → (k : ℕ) → k ≡ t .prefix → treeWith k ts ≡ some t
+pub tree-found : {t : Tree} {ts : List Tree} → Apart ts → List·Memᴰ t ts → (k : ℕ) → k ≡ t .prefix → treeWith k ts ≡ some t
 tree-found {t} {ts} d m k e =
     let r = found-one (λ c. eqb (c .prefix) k) m (eq-eqb (t .prefix) k (sym e)) in
     r .3 ∙ ap some (apart-same d m (r .1) (eqb-true (r .0 .prefix) k (r .2) ∙ e))
@@ -160,19 +160,6 @@ module _ (lim : ℕ → ℕ) (o : Options) (least : 1 ≤ o .min) (most : o .min
 
 -- ---- all specs
 
--- what refusal 2 rules out: a prefix twice, and run ids not strictly falling in a tree
-good-parts : (ts : List Tree) → goodTrees ts ≡ true
-    → (distinct eqb (map (λ x. x .prefix) ts) ≡ true) × (all (λ x. fallingIds (x .runs)) ts ≡ true)
-unfolding goodTrees
-good-parts ts h =
-    let root = firstIsRoot ts in
-    let prefixes = distinct eqb (map (λ x. x .prefix) ts) in
-    let falling = all (λ x. fallingIds (x .runs)) ts in
-    let runs = distinct eqb (map (λ r. r .id) (runsOf ts)) in
-    let views = distinct sameUlid (map (λ v. v .view) (l0Of ts)) in
-    let three = and-left (root && prefixes && falling) runs (and-left (root && prefixes && falling && runs) views (and-left _ (all goodMarks ts) h)) in
-    (and-right root prefixes (and-left (root && prefixes) falling three), and-right (root && prefixes) falling three)
-
 pub validates : (lim : ℕ → ℕ) (o : Options) → 1 ≤ o .min → o .min ≤ o .max → (ts : List Tree) (js : List Job)
     → goodTrees ts ≡ true → Validates lim o ts js
 validates lim o least most ts js h = record {
@@ -183,6 +170,6 @@ validates lim o least most ts js h = record {
     one : (t : Tree) → List·Memᴰ t ts → (s : Spec) → Made o t s
         → tieredRefusal (s .sources) (s .destination) (treeWith (s .prefix) ts) ≡ 0
     one t m s made =
-        let good = good-parts ts h in
-        rw (tree-found (distinct-apart ts (good .0)) m (s .prefix) (made .prefix))
-        (accepts-made lim o least most t (all-mem (λ x. fallingIds (x .runs)) (good .1) m) s made)
+        let rules = by-rules ts h in
+        rw (tree-found (distinct-apart ts (rules .prefixes)) m (s .prefix) (made .prefix))
+        (accepts-made lim o least most t (all-mem (λ x. fallingIds (x .runs)) (rules .falling) m) s made)

@@ -7,7 +7,7 @@ use lib.ListN.{length}
 use Rattle.rules.specs.declared.Options.{Options}
 use Rattle.rules.specs.Tables.{Ulid, Run, Tree, Job}
 use Rattle.rules.specs.Lent.{LentTrees, LentJobs, jobsOf}
-use Rattle.rules.specs.Bounds.{goodTrees, goodJob, goodJobs}
+use Rattle.rules.specs.Bounds.{goodTrees, goodJob, goodJobs, jobsRefusal}
 use Rattle.rules.specs.Limit.{limitOf}
 use Rattle.rules.specs.Pick.{Spec, lastRun}
 use Rattle.rules.specs.Plan.{firstFresh}
@@ -21,6 +21,7 @@ use Rattle.laws.specs.Disjoint.{Disjoint}
 use Rattle.laws.specs.Shapes.{Shapes}
 use Rattle.laws.specs.NamesOnce.{NamesOnce}
 use Rattle.laws.specs.NothingLost.{Added, Merged, Retained, StatusSet, OneTree, TreeFinished, TreeDrained, Ended}
+use Rattle.laws.specs.NextCall.{NextTakes}
 use Rattle.laws.specs.NoSecondAnswer.{NoSecondAnswer}
 use Rattle.laws.specs.PlanFits.{PlanFits, PlanFitsLent, PlanHasPlaces}
 use Rattle.laws.specs.ReadsBack.{ReadsBack, KeepsLengths}
@@ -77,5 +78,12 @@ pub record Laws : Type 0 where
   pub finishKeeps : (t : LentTrees) (j : LentJobs) (u : Ulid) (out : Run) → finishRefusal t j u out ≡ 0
       → Ended (λ x. TreeFinished x out) u t j (finishCall t j u out)
   pub drainKeeps : (t : LentTrees) (j : LentJobs) (u : Ulid) → drainRefusal t j u ≡ 0 → Ended TreeDrained u t j (drainCall t j u)
+  -- what a call leaves, the next call takes: no table is refused 1 or 2
+  pub addNext : (t : LentJobs) (j : LentJob) → addRefusal t j ≡ 0 → jobsRefusal (addCall t j .jobs) ≡ 0
+  pub mergeNext : (t r : LentJobs) → mergeRefusal t r ≡ 0 → jobsRefusal (mergeCall t r .jobs) ≡ 0
+  pub retainNext : (t : LentJobs) → retainRefusal t ≡ 0 → jobsRefusal (retainCall t .jobs) ≡ 0
+  pub finishNext : (t : LentTrees) (j : LentJobs) (u : Ulid) (out : Run) → finishRefusal t j u out ≡ 0
+      → NextTakes j (finishCall t j u out)
+  pub drainNext : (t : LentTrees) (j : LentJobs) (u : Ulid) → drainRefusal t j u ≡ 0 → NextTakes j (drainCall t j u)
   -- no second answer fits
   pub noSecondAnswer : NoSecondAnswer

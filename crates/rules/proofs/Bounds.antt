@@ -1,14 +1,16 @@
 -- What a table that is not refused 1 or 2 is known to be: within its bounds, lent at its capacity, its rows by the rules.
 use Prim.Native.Nat.{_*_, _≤_, _<_}
 use mathlib.Core.Path.{_≡_, refl, ap}
+use mathlib.Core.List.{List, map}
 use mathlib.Core.Bool.{Bool, true, false, _&&_, _||_, not}
 use native.Mathlib.Omega.{arith}
 use lib.Dec.{ltb, eqb}
 use lib.ListN.{length}
-use borrow.Author.Tests.{eqb-true, eqb-false, ltb-false}
-use Rattle.rules.specs.Lists.{_given_else_}
-use Rattle.rules.specs.Lent.{LentTrees, LentJobs, treesOf, jobsOf, l0Used, runsUsed, sourcesUsed}
-use Rattle.rules.specs.Bounds.{maxTrees, maxL0, maxRuns, maxJobs, maxSources, treesOutside, jobsOutside, treesAtCapacity, jobsAtCapacity, goodTrees, goodJobs, treesMisshapen, jobsMisshapen, treesRefusal, jobsRefusal}
+use borrow.Author.Tests.{eqb-true, eqb-false, ltb-false, not-false}
+use Rattle.rules.specs.Lists.{all, distinct, _given_else_}
+use Rattle.rules.specs.Tables.{sameUlid, Tree}
+use Rattle.rules.specs.Lent.{LentTrees, LentJobs, treesOf, jobsOf, l0Used, runsUsed, sourcesUsed, l0Of, runsOf}
+use Rattle.rules.specs.Bounds.{maxTrees, maxL0, maxRuns, maxJobs, maxSources, treesOutside, jobsOutside, treesAtCapacity, jobsAtCapacity, firstIsRoot, fallingIds, goodMarks, goodTrees, goodJobs, treesMisshapen, jobsMisshapen, treesRefusal, jobsRefusal}
 use Rattle.rules.proofs.Lookups.{and-left, and-right, or-left, or-right}
 
 -- ---- within the bounds
@@ -157,4 +159,44 @@ jobs-good j h = go (jobsOutside j) (jobsAtCapacity j && goodJobs (jobsOf j)) ref
       within = jobs-within j e;
       lent = jobs-lent j (and-left (jobsAtCapacity j) (goodJobs (jobsOf j)) f);
       rules = and-right (jobsAtCapacity j) (goodJobs (jobsOf j)) f;
+    }
+
+-- ---- a table that is not refused 2 keeps its rules
+
+pub trees-rules : (t : LentTrees) → treesMisshapen t ≡ false → goodTrees (treesOf t) ≡ true
+unfolding treesMisshapen
+trees-rules t h = and-right (treesAtCapacity t) (goodTrees (treesOf t)) (not-false (treesAtCapacity t && goodTrees (treesOf t)) h)
+
+pub jobs-rules : (j : LentJobs) → jobsMisshapen j ≡ false → goodJobs (jobsOf j) ≡ true
+unfolding jobsMisshapen
+jobs-rules j h = and-right (jobsAtCapacity j) (goodJobs (jobsOf j)) (not-false (jobsAtCapacity j && goodJobs (jobsOf j)) h)
+
+-- the rules on trees, one by one
+pub record ByRules (ts : List Tree) : Type 0 where
+  pub root : firstIsRoot ts ≡ true
+  pub prefixes : distinct eqb (map (λ x. x .prefix) ts) ≡ true
+  pub falling : all (λ x. fallingIds (x .runs)) ts ≡ true
+  pub runs : distinct eqb (map (λ r. r .id) (runsOf ts)) ≡ true
+  pub views : distinct sameUlid (map (λ v. v .view) (l0Of ts)) ≡ true
+  pub marks : all goodMarks ts ≡ true
+
+pub by-rules : (ts : List Tree) → goodTrees ts ≡ true → ByRules ts
+unfolding goodTrees
+by-rules ts h =
+    let root = firstIsRoot ts in
+    let prefixes = distinct eqb (map (λ x. x .prefix) ts) in
+    let falling = all (λ x. fallingIds (x .runs)) ts in
+    let runs = distinct eqb (map (λ r. r .id) (runsOf ts)) in
+    let views = distinct sameUlid (map (λ v. v .view) (l0Of ts)) in
+    let five = and-left (root && prefixes && falling && runs && views) (all goodMarks ts) h in
+    let four = and-left (root && prefixes && falling && runs) views five in
+    let three = and-left (root && prefixes && falling) runs four in
+    let two = and-left (root && prefixes) falling three in
+    record {
+      root = and-left root prefixes two;
+      prefixes = and-right root prefixes two;
+      falling = and-right (root && prefixes) falling three;
+      runs = and-right (root && prefixes && falling) runs four;
+      views = and-right (root && prefixes && falling && runs) views five;
+      marks = and-right (root && prefixes && falling && runs && views) (all goodMarks ts) h;
     }

@@ -7,7 +7,7 @@ pub mod Laid
 pub mod Packed
 pub mod ReadBack
 pub mod Lookups
-pub mod Rising
+pub mod Sorted
 pub mod Refusals
 pub mod Passes
 pub mod Bounds

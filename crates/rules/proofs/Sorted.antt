@@ -7,7 +7,7 @@ use mathlib.Core.Bool.{Bool, true, false, _&&_, _||_, or-true, true≢false, fal
 use native.Mathlib.Omega.{arith}
 use lib.Dec.{eqb, ltb}
 use borrow.Author.Tests.{ltb-true, ltb-false, eqb-true, lt-ltb, eq-eqb}
-use Rattle.rules.specs.Lists.{all, linked}
+use Rattle.rules.specs.Lists.{any, all, linked}
 use Rattle.rules.specs.Tables.{Ulid, sameUlid, ulidBelow}
 use Rattle.rules.proofs.Lookups.{and-left, and-right, same-ulid, ulid-same}
 use Rattle.rules.proofs.Records.{ulid-eq}
@@ -80,6 +80,12 @@ module _ {A : Type 0} where
   unfolding all
   all-weaker p q w [] h = refl
   all-weaker p q w (x ∷ xs) h = ap₂ _&&_ (w x (and-left (p x) (all p xs) h)) (all-weaker p q w xs (and-right (p x) (all p xs) h))
+
+  -- what a test rules out holds of none
+  pub all-none : (p q : A → Bool) → ((x : A) → p x ≡ true → q x ≡ false) → (xs : List A) → all p xs ≡ true → any q xs ≡ false
+  unfolding all any
+  all-none p q w [] h = refl
+  all-none p q w (x ∷ xs) h = ap₂ _||_ (w x (and-left (p x) (all p xs) h)) (all-none p q w xs (and-right (p x) (all p xs) h))
 
   module _ (r : A → A → Bool) where
     -- without the first

@@ -99,7 +99,7 @@ module _ (u : Ulid) (n : ℕ) where
 
 -- ---- trees
 module _ (k : ℕ) (f : Tree → Tree) (stays : (t : Tree) → f t .prefix ≡ t .prefix) where
-  one-prefixes : (ts : List Tree) → map (λ t. t .prefix) (inTree k f ts) ≡ map (λ t. t .prefix) ts
+  pub one-prefixes : (ts : List Tree) → map (λ t. t .prefix) (inTree k f ts) ≡ map (λ t. t .prefix) ts
   one-prefixes [] = refl
   one-prefixes (t ∷ ts) =
       ap₂ _∷_ (elim (eqb (t .prefix) k) as (λ c. cond c (f t) t .prefix ≡ t .prefix) [ true ↦ stays t | false ↦ refl ]) (one-prefixes ts)
