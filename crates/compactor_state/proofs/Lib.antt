@@ -2,6 +2,9 @@
 pub mod Table
 pub mod Adopted
 pub mod Clashes
-pub mod Merged
 pub mod Flagged
+pub mod Merged
 pub mod Plans
+pub mod Answered
+pub mod Retaining
+pub mod AddCall

@@ -1,3 +1,6 @@
 -- What the contracts of the job rules cite beside document 01's definitions.
 pub mod Clash
 pub mod Merge
+pub mod Retention
+pub mod Answers
+pub mod AddCall

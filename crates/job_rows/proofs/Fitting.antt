@@ -5,6 +5,7 @@ use native.Mathlib.Omega.{arith}
 use lib.ListN.{length}
 use Rattle.rules.specs.Lists.{total}
 use Rattle.rules.specs.Lent.{LentJobs, rowsFrom, sourceCount, sourcesUsed}
+use Rattle.rules.proofs.Bounds.{JobsGood}
 use Rattle.job_rows.specs.Slices.{AtCapacity}
 
 module _ {j : LentJobs} (room : AtCapacity j) where
@@ -34,3 +35,16 @@ module _ {j : LentJobs} (room : AtCapacity j) where
 
     pub source-views-fit : 2 * used ≤ length (j .sourceViews)
     source-views-fit = omega (arith, entries-fit, room .sourceViews)
+
+-- a table that is not refused by itself
+pub good-capacity : {j : LentJobs} → JobsGood j → AtCapacity j
+good-capacity good = record {
+  jobs = good .within .jobs;
+  sources = good .within .sources;
+  jobIds = good .lent .jobIds;
+  jobMarks = good .lent .jobMarks;
+  jobSpecs = good .lent .jobSpecs;
+  sourceMarks = good .lent .sourceMarks;
+  sourceRuns = good .lent .sourceRuns;
+  sourceViews = good .lent .sourceViews;
+}
