@@ -1,10 +1,12 @@
--- The laws that the proofs of several functions cite, and those that callers cite.
+-- Laws that the proofs of the job rules cite.
 pub mod Table
 pub mod Adopted
 pub mod Clashes
-pub mod Merged
 pub mod Flagged
+pub mod Merged
 pub mod Plans
 pub mod Taking
 pub mod Answered
 pub mod MergeCall
+pub mod Retaining
+pub mod AddCall

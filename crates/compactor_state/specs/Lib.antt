@@ -3,3 +3,5 @@ pub mod Clash
 pub mod Merge
 pub mod Taking
 pub mod Answers
+pub mod Retention
+pub mod AddCall
