@@ -2,3 +2,4 @@
 pub mod Table
 pub mod Adopted
 pub mod Clashes
+pub mod Finding
