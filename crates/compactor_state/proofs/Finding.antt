@@ -6,7 +6,8 @@ use mathlib.Core.Bool.{Bool, true, false, cond, _&&_, _||_, not}
 use mathlib.Core.Option.{some, none}
 use native.Mathlib.Omega.{arith}
 use lib.Dec.{eqb, leb}
-use lib.ListN.{getD}
+use lib.ListN.{length, getD, set}
+use lib.Seq.{paste}
 use borrow.Author.Tests.{eq-eqb, ne-eqb, leb-true}
 use Rattle.rules.specs.Lists.{any, all, leading, linked, _given_else_}
 use Rattle.rules.specs.Tables.{Ulid, sameUlid, ulidBelow, Run, Job, SourceId, sortedRun, sameId, among}
@@ -15,11 +16,13 @@ use Rattle.rules.specs.Bounds.{treesOutside, jobsOutside, treesMisshapen, jobsM
 use Rattle.rules.specs.Jobs.{jobWith}
 use Rattle.rules.specs.Finish.{finishJobRefusal, drainJobRefusal}
 use Rattle.rules.proofs.Appended.{any-append}
+use Rattle.rules.proofs.Rows.{length-rowsFrom, getD-rowsFrom}
 use Rattle.rules.proofs.Lookups.{and-left, and-right, all-at}
 use Rattle.rules.proofs.Packed.{length-jobsOf, job-is}
 use Rattle.rules.proofs.Bounds.{TreesGood, JobsGood, trees-good, jobs-good}
 use Rattle.rows.proofs.Finds.{Sought, seek-starts-at}
 use Rattle.rows.proofs.Scans.{Left}
+use Rattle.rows.proofs.Paste.{Pasted, pasted-none, pasted-more, pasted-all}
 use Rattle.rows.proofs.Found.{job-found, job-missing, tree-found, tree-missing}
 use Rattle.compactor_state.specs.Finding.{tablesRefusal, NoWork, JobFound, TreeFound, jobIn, goneWith}
 
@@ -147,3 +150,17 @@ module _ (run : ℕ) (drain destination : ℕ) (names : List SourceId) where
       last : (b : Bool) → b || false ≡ b
       last true = refl
       last false = refl
+
+-- the loop that writes the flags of n rows from row a on: k of them are written
+pub record Flagging (l : List ℕ) (g : ℕ → ℕ) (a n : ℕ) (now : List ℕ) (k : ℕ) : Type 0 where
+  pub pasted : Pasted l a (rowsFrom g a n) n now k
+
+module _ {l : List ℕ} {g : ℕ → ℕ} {a n : ℕ} where
+  pub flags-start : a + n ≤ length l → Flagging l g a n l 0
+  flags-start h = record { pasted = pasted-none (omega (arith, length-rowsFrom g a n)) h }
+
+  pub flags-next : {now : List ℕ} {k v : ℕ} → Flagging l g a n now k → k < n → v ≡ g (a + k) → Flagging l g a n (set now (a + k) v) (k + 1)
+  flags-next f h e = record { pasted = pasted-more (f .pasted) h (e ∙ sym (getD-rowsFrom g a n _ 0 h)) }
+
+  pub flags-end : {now : List ℕ} {k : ℕ} → Flagging l g a n now k → n ≤ k → now ≡ paste l a (rowsFrom g a n) n
+  flags-end f h = pasted-all (f .pasted) h

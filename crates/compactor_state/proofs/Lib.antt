@@ -3,3 +3,5 @@ pub mod Table
 pub mod Adopted
 pub mod Clashes
 pub mod Finding
+pub mod Marks
+pub mod Placed

@@ -1,28 +1,19 @@
 // What finish and drain find before they change anything: the job and its tree, the rows that go, and what is refused.
 ghost use mathlib.Core.Path.{_≡_};
-ghost use mathlib.Core.Bool.{true, not};
-ghost use mathlib.Core.List.{List, [], _∷_, _++_};
-ghost use Prim.Native.Nat.{ℕ, _+_, _-_, _*_, _<_, _≤_};
-ghost use lib.Dec.{eqb, leb};
-ghost use lib.ListN.{length, getD, set, take, drop};
+ghost use mathlib.Core.Bool.{true};
+ghost use Prim.Native.Nat.{_+_, _*_, _<_, _≤_};
+ghost use lib.ListN.{length, getD, set};
 ghost use lib.Seq.{paste};
-ghost use Rattle.rules.specs.Lists.{leading, keep};
-ghost use Rattle.rules.specs.Tables.{Ulid, Source, Tree, sortedRun, sstView, idOf, among};
-ghost use Rattle.rules.specs.Lent.{LentTrees, LentJobs, lentTrees, lentJobs, rowsFrom, ulidAt, treesOf, jobsOf};
+ghost use Rattle.rules.specs.Tables.{Ulid, Source, sortedRun, sstView, idOf, among};
+ghost use Rattle.rules.specs.Lent.{LentTrees, LentJobs, lentTrees, lentJobs, rowsFrom, ulidAt, jobsOf};
 ghost use Rattle.rules.specs.Bounds.{goodJobs};
-ghost use Rattle.rules.specs.Finish.{finishMark, drainMark};
-ghost use Rattle.rows.specs.Movers.{marked};
 ghost use Rattle.compactor_state.specs.Finding.{tablesRefusal, WorkFound, namesIn, goneWith, flagOf, SourceRoom};
 use rows::bounds::jobs_outside;
 use rows::bounds::trees_outside;
 use rows::find::find_job;
 use rows::find::find_prefix;
-use rows::find::find_run;
-use rows::find::find_view;
 use rows::ids::same_source;
 use rows::jobs::jobs_refusal;
-use rows::read::job_rows;
-use rows::read::tree_rows;
 use rows::trees::trees_refusal;
 
 // "Checks run 1, 2": 1 of either table comes before 2 of either.
@@ -255,22 +246,6 @@ pub fn flag_runs(
         );
         k += 1;
     }
-}
-
-// "put the output before the first old run whose id is not above it, else last": how many of `runs` runs from run `first` on stand before it.
-fn output_place(run_ids: &[u32], first: usize, runs: usize, output: u32) -> usize
-    requires { ⌜ first + runs ≤ length (now «run_ids») ⌝ }
-    ensures { λ r. ⌜ r ≡ leading (λ x. not (leb x output)) (rowsFrom (λ k. getD (now («run_ids» .entry)) k 0) first runs) ⌝ }
-{
-    let end = first + runs;
-    let mut i = first;
-    while i < end {
-        if run_ids[i] <= output {
-            return i - first;
-        }
-        i += 1;
-    }
-    i - first
 }
 
 // The status of a job.

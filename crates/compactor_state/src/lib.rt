@@ -1,4 +1,6 @@
-// slatedb's job rules over rows of lent tables: which remote records are adopted, which jobs clash, and what finish and drain find.
+// slatedb's job rules over rows of lent tables: which remote records are adopted, which jobs clash, finish and drain.
 pub mod adding;
 pub mod adoption;
 pub mod finishing;
+pub mod output;
+pub mod watermarks;

@@ -15,7 +15,7 @@ use Rattle.rules.proofs.Packed.{length-treesOf, length-jobsOf, tree-is, job-is,
 use Rattle.rules.proofs.Lookups.{leading-found, leading-none}
 use Rattle.rows.proofs.Shapes.{ids-are}
 
-leading-map : {A B : Type 0} (g : A → B) (q : B → Bool) (xs : List A) → leading q (map g xs) ≡ leading (λ x. q (g x)) xs
+pub leading-map : {A B : Type 0} (g : A → B) (q : B → Bool) (xs : List A) → leading q (map g xs) ≡ leading (λ x. q (g x)) xs
 unfolding leading
 leading-map g q [] = refl
 leading-map g q (x ∷ xs) = rw (leading-map g q xs)

@@ -1,13 +1,11 @@
 -- `compactor_state::finishing::flag_rows` meets its contract. Assumes nothing.
 use borrow.Author.Needs.{needs}
-use mathlib.Core.Path.{sym, ap, _∙_}
+use mathlib.Core.Path.{ap, _∙_}
 use Prim.Native.Nat.{_-_, _*_}
-use native.Mathlib.Omega.{arith}
 use Rattle.rules.specs.Tables.{sstView, among}
-use Rattle.rules.specs.Lent.{rowsFrom, ulidAt}
-use Rattle.rules.proofs.Rows.{length-rowsFrom, getD-rowsFrom}
-use Rattle.rows.proofs.Paste.{Pasted, pasted-none, pasted-more, pasted-all}
+use Rattle.rules.specs.Lent.{ulidAt}
 use Rattle.compactor_state.specs.Finding.{namesIn, flagOf}
+use Rattle.compactor_state.proofs.Finding.{Flagging, flags-start, flags-next, flags-end}
 use Rattle.compactor_state.proofs.finishing.flag_rows.Statement.{statement}
 use Rattle.compactor_state.proofs.finishing.flag_rows.Tie as tie
 use Rattle.compactor_state.proofs.finishing.flag_rows.Reads as reads
@@ -17,14 +15,14 @@ use Rattle.compactor_state.proofs.finishing.is_source.Reads as is-sourc
 
 
 abbrev Inv-loop : tie.InvT-loop
-Inv-loop l0-ids first rows source-marks source-runs source-views from n kept₀ k₀ kept k = Pasted kept₀ first (rowsFrom (λ k. flagOf (among (sstView (ulidAt l0-ids (4 * k))) (namesIn source-marks source-runs source-views from n))) first rows) rows kept k
+Inv-loop l0-ids first rows source-marks source-runs source-views from n kept₀ k₀ kept k = Flagging kept₀ (λ k. flagOf (among (sstView (ulidAt l0-ids (4 * k))) (namesIn source-marks source-runs source-views from n))) first rows kept k
 
 abbrev μ-loop : tie.MeasureT-loop
 μ-loop l0-ids first rows source-marks source-runs source-views from n kept₀ k₀ kept k = rows - k
 
 -- src/finishing.rt:205:5
 loop-holds : tie.Need-loop-holds Inv-loop μ-loop
-loop-holds c = pasted-none (omega (arith, length-rowsFrom _ _ _)) (c .before .before .before .before .before .pre .2)
+loop-holds c = flags-start (c .before .before .before .before .before .pre .2)
 
 -- src/finishing.rt:206:17
 add-i : tie.Need-add-i Inv-loop μ-loop
@@ -80,7 +78,7 @@ loop-less c = search needs
 
 -- src/finishing.rt:205:5
 loop-again : tie.Need-loop-again Inv-loop μ-loop
-loop-again c = pasted-more (c .before .before .before .before .before .loop .inv) (c .before .before .before .before .loop-test .taken) (c .flag .ensures ∙ ap flagOf (c .before .is-source .ensures) ∙ sym (getD-rowsFrom _ _ _ _ _ (c .before .before .before .before .loop-test .taken)))
+loop-again c = flags-next (c .before .before .before .before .before .loop .inv) (c .before .before .before .before .loop-test .taken) (c .flag .ensures ∙ ap flagOf (c .before .is-source .ensures))
 
 -- src/finishing.rt:190:1
 same-length : tie.Need-same-length Inv-loop μ-loop
@@ -88,7 +86,7 @@ same-length c = search needs
 
 -- src/finishing.rt:190:1
 returns : tie.Need-returns Inv-loop μ-loop
-returns c = pasted-all (c .before .loop .inv) (c .loop-test .left)
+returns c = flags-end (c .before .loop .inv) (c .loop-test .left)
 
 pub flag-rows-spec : {M : Type 1} → statement M
 flag-rows-spec =

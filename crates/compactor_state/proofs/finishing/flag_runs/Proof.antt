@@ -1,14 +1,11 @@
 -- `compactor_state::finishing::flag_runs` meets its contract. Assumes nothing.
 use borrow.Author.Needs.{needs}
 use lib.ListN.{getD}
-use mathlib.Core.Path.{sym, ap, _∙_}
+use mathlib.Core.Path.{ap, _∙_}
 use Prim.Native.Nat.{_-_}
-use native.Mathlib.Omega.{arith}
 use Rattle.rules.specs.Tables.{sortedRun, among}
-use Rattle.rules.specs.Lent.{rowsFrom}
-use Rattle.rules.proofs.Rows.{length-rowsFrom, getD-rowsFrom}
-use Rattle.rows.proofs.Paste.{Pasted, pasted-none, pasted-more, pasted-all}
 use Rattle.compactor_state.specs.Finding.{namesIn, goneWith, flagOf}
+use Rattle.compactor_state.proofs.Finding.{Flagging, flags-start, flags-next, flags-end}
 use Rattle.compactor_state.proofs.finishing.flag_runs.Statement.{statement}
 use Rattle.compactor_state.proofs.finishing.flag_runs.Tie as tie
 use Rattle.compactor_state.proofs.finishing.flag_runs.Reads as reads
@@ -18,16 +15,14 @@ use Rattle.compactor_state.proofs.finishing.run_goes.Reads as run-goes-
 
 
 abbrev Inv-loop : tie.InvT-loop
-Inv-loop run-ids first runs source-marks source-runs source-views from n drain destination kept₀ k₀ kept k =
-    ?
+Inv-loop run-ids first runs source-marks source-runs source-views from n drain destination kept₀ k₀ kept k = Flagging kept₀ (λ k. flagOf (among (sortedRun (getD run-ids k 0)) (goneWith drain destination (namesIn source-marks source-runs source-views from n)))) first runs kept k
 
 abbrev μ-loop : tie.MeasureT-loop
-μ-loop run-ids first runs source-marks source-runs source-views from n drain destination kept₀ k₀ kept k =
-    ?
+μ-loop run-ids first runs source-marks source-runs source-views from n drain destination kept₀ k₀ kept k = runs - k
 
 -- src/finishing.rt:242:5
 loop-holds : tie.Need-loop-holds Inv-loop μ-loop
-loop-holds c = pasted-none (omega (arith, length-rowsFrom _ _ _)) (c .before .before .before .before .before .pre .2)
+loop-holds c = flags-start (c .before .before .before .before .before .pre .2)
 
 -- src/finishing.rt:243:17
 add-i : tie.Need-add-i Inv-loop μ-loop
@@ -63,7 +58,7 @@ loop-less c = search needs
 
 -- src/finishing.rt:242:5
 loop-again : tie.Need-loop-again Inv-loop μ-loop
-loop-again c = pasted-more (c .before .before .before .before .loop .inv) (c .before .before .before .loop-test .taken) (c .flag .ensures ∙ ap flagOf (c .before .run-goes .ensures) ∙ sym (getD-rowsFrom _ _ _ _ _ (c .before .before .before .loop-test .taken)))
+loop-again c = flags-next (c .before .before .before .before .loop .inv) (c .before .before .before .loop-test .taken) (c .flag .ensures ∙ ap flagOf (c .before .run-goes .ensures))
 
 -- src/finishing.rt:225:1
 same-length : tie.Need-same-length Inv-loop μ-loop
@@ -71,7 +66,7 @@ same-length c = search needs
 
 -- src/finishing.rt:225:1
 returns : tie.Need-returns Inv-loop μ-loop
-returns c = pasted-all (c .before .loop .inv) (c .loop-test .left)
+returns c = flags-end (c .before .loop .inv) (c .loop-test .left)
 
 pub flag-runs-spec : {M : Type 1} → statement M
 flag-runs-spec =

@@ -15,15 +15,15 @@ is-source-requires c κs = search needs
 
 -- src/finishing.rt:171:9
 returns : tie.Need-returns
-returns c = goes-source _ _ _ _ (sym (c .before .is-source .ensures) ∙ c .if1 .taken)
+returns c = goes-source (c .before .before .before .before .before .args .run) (c .before .before .before .before .before .args .drain) (c .before .before .before .before .before .args .destination) _ (sym (c .before .is-source .ensures) ∙ c .if1 .taken)
 
 -- src/finishing.rt:174:9
 returns-2 : tie.Need-returns-2
-returns-2 c = goes-drain _ _ _ _ (sym (c .before .before .is-source .ensures) ∙ c .before .if1 .left) (c .if2 .taken)
+returns-2 c = goes-drain (c .before .before .before .before .before .before .args .run) (c .before .before .before .before .before .before .args .drain) (c .before .before .before .before .before .before .args .destination) _ (sym (c .before .before .is-source .ensures) ∙ c .before .if1 .left) (c .if2 .taken)
 
 -- src/finishing.rt:157:1
 returns-3 : tie.Need-returns-3
-returns-3 c = goes-tiered _ _ _ _ (sym (c .before .before .is-source .ensures) ∙ c .before .if1 .left) (c .if2 .left)
+returns-3 c = goes-tiered (c .before .before .before .before .before .before .args .run) (c .before .before .before .before .before .before .args .drain) (c .before .before .before .before .before .before .args .destination) _ (sym (c .before .before .is-source .ensures) ∙ c .before .if1 .left) (c .if2 .left)
 
 pub run-goes-spec : {M : Type 1} → statement M
 run-goes-spec = tie.close (tie.spec is-source-requires returns returns-2 returns-3)
