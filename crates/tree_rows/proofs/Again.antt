@@ -7,11 +7,13 @@ use native.Mathlib.Omega.{arith}
 use lib.ListN.{length, length-map}
 use Rattle.rules.specs.Lists.{concatMap}
 use Rattle.rules.specs.Tables.{Tree}
-use Rattle.rules.specs.Lent.{LentTrees, lentTrees, layTrees, laid, l0Used, runsUsed, l0Of, runsOf, treeWords, watermarkMarkWords, watermarkWords, l0Words}
+use Rattle.rules.specs.Lent.{LentTrees, lentTrees, treesOf, layTrees, laid, l0Used, runsUsed, l0Of, runsOf, treeWords, watermarkMarkWords, watermarkWords, l0Words}
 use Rattle.rules.proofs.Rows.{length-words}
-use Rattle.rules.proofs.Packed.{length-l0, length-runs}
+use Rattle.rules.proofs.Packed.{length-treesOf, length-l0, length-runs}
 use Rattle.rules.proofs.ReadBack.{trees-back}
 use Rattle.rows.proofs.Laying.{laid-again}
+use Rattle.tree_rows.specs.Change.{changedAt}
+use Rattle.tree_rows.proofs.Changes.{changed-twice, length-changed}
 
 -- two tables of the same slices
 pub lent-eq : {n m : ℕ} {a b c d e f g a′ b′ c′ d′ e′ f′ g′ : List ℕ} → n ≡ m → a ≡ a′ → b ≡ b′ → c ≡ c′ → d ≡ d′ → e ≡ e′ → f ≡ f′ → g ≡ g′
@@ -54,3 +56,13 @@ lay-again t ts us few rows runs =
 
     ids : (xs : List Tree) → length (concatMap l0Words (l0Of xs)) ≡ 4 * length (l0Of xs)
     ids xs = length-words l0Words 4 (λ v. refl) (l0Of xs)
+
+-- a change of tree i laid over another change of it is both changes laid at once
+pub changed-again : (t : LentTrees) (i : ℕ) (f g : Tree → Tree)
+    → length (l0Of (changedAt i f (treesOf t))) ≤ max (l0Used t) (length (l0Of (changedAt i (λ x. g (f x)) (treesOf t))))
+    → length (runsOf (changedAt i f (treesOf t))) ≤ max (runsUsed t) (length (runsOf (changedAt i (λ x. g (f x)) (treesOf t))))
+    → layTrees (layTrees t (changedAt i f (treesOf t))) (changedAt i g (treesOf (layTrees t (changedAt i f (treesOf t))))) ≡ layTrees t (changedAt i (λ x. g (f x)) (treesOf t))
+changed-again t i f g rows runs =
+    let first = changedAt i f (treesOf t) in
+    ap (λ (us : List Tree). layTrees (layTrees t first) us) (ap (changedAt i g) (trees-back t first) ∙ changed-twice i f g (treesOf t))
+    ∙ lay-again t first (changedAt i (λ x. g (f x)) (treesOf t)) (omega (arith, length-changed i f (treesOf t), length-treesOf t)) rows runs

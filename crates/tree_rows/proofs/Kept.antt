@@ -30,12 +30,6 @@ module _ {A : Type 0} (of : Tree → List A) (p : A → Bool) (f : Tree → Tree
 
 -- what the calls of keep_tree_rows ask for
 module _ {count : ℕ} {trees l0Ids l0Sizes runIds runSizes : List ℕ} {i : ℕ} {l0Kept runsKept : List ℕ} (room : KeepRoom count trees l0Ids l0Sizes runIds runSizes i l0Kept runsKept) where
-  pub l0-ids-fit : {n : ℕ} → n ≡ rowsBefore trees count → (n ≤ length l0Kept) × (4 * n ≤ length l0Ids)
-  l0-ids-fit h = (omega arith, omega arith)
-
-  pub l0-sizes-fit : {n : ℕ} → n ≡ rowsBefore trees count → (n ≤ length l0Kept) × (1 * n ≤ length l0Sizes)
-  l0-sizes-fit h = (omega arith, omega arith)
-
   pub run-ids-fit : {n : ℕ} → n ≡ runsBefore trees count → (n ≤ length runsKept) × (1 * n ≤ length runIds)
   run-ids-fit h = (omega arith, omega arith)
 

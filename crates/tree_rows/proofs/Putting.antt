@@ -44,12 +44,6 @@ module _ {count : ℕ} {trees runIds runSizes : List ℕ} {i at : ℕ} (room : P
   pub count-few : getD trees (3 * i + 2) 0 + 1 ≤ 512
   count-few = omega (arith, room .runs, part-within (λ k. getD trees (3 * k + 2) 0) i count (room .tree))
 
-  pub ids-fit : {n : ℕ} (v : ℕ) → n ≡ runsBefore trees count → (at ≤ n) × (1 * (n + 1) ≤ length runIds) × (1 * 1 ≤ length (v ∷ []))
-  ids-fit v h = (omega (arith, place-within), omega (arith, room .runs, room .runIds), omega arith)
-
-  pub sizes-fit : {n : ℕ} (v : ℕ) → n ≡ runsBefore trees count → (at ≤ n) × (1 * (n + 1) ≤ length runSizes) × (1 * 1 ≤ length (v ∷ []))
-  sizes-fit v h = (omega (arith, place-within), omega (arith, room .runs, room .runSizes), omega arith)
-
   module _ (t : LentTrees) (e : t .count ≡ count) (R : RunsOf t trees runIds runSizes) (out : Run) where
     abbrev after : LentTrees
     after = layTrees t (changedAt i (putRun (at - runsBefore trees i) out) (treesOf t))

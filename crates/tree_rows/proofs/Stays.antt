@@ -16,6 +16,10 @@ use Rattle.tree_rows.proofs.Changes.{changed-keeps, length-changed}
 use Rattle.tree_rows.proofs.Standing.{trees-stand, marks-stand, watermarks-stand, l0-ids-stand, l0-sizes-stand, run-ids-stand, run-sizes-stand}
 use Rattle.tree_rows.proofs.Again.{lent-eq}
 
+-- the slices that put_run is lent are among those that keep_tree_rows leaves
+pub runs-among : {t : LentTrees} {trees l0Ids l0Sizes runIds runSizes : List ℕ} → RowsOf t trees l0Ids l0Sizes runIds runSizes → RunsOf t trees runIds runSizes
+runs-among R = record { trees = R .trees; runIds = R .runIds; runSizes = R .runSizes }
+
 module _ (t : LentTrees) (within : TreesWithin t) (lent : TreesLent t) (i : ℕ) (f : Tree → Tree) where
   abbrev after : LentTrees
   after = layTrees t (changedAt i f (treesOf t))
@@ -78,6 +82,10 @@ module _ (t : LentTrees) (within : TreesWithin t) (lent : TreesLent t) (i : ℕ)
         let room : runsUsed t ≤ length (t .runSizes) = omega (arith, within .runs, lent .runSizes) in
         ap (λ (r : List ℕ). laid (runsUsed t) r (t .runSizes)) (ap (map (λ (v : Run). v .size)) (changed-keeps (λ (x : Tree). x .runs) f h i (treesOf t)) ∙ sym (run-sizes-stand t room))
         ∙ laid-same (runsUsed t) (t .runSizes) room
+
+  -- the slices of watermarks are those of the changed table
+  pub same-marks : ((x : Tree) → f x .watermark ≡ x .watermark) → MarksOf after (t .watermarkMarks) (t .watermarks)
+  same-marks h = record { watermarkMarks = sym (marks-stay h); watermarks = sym (watermarks-stay h) }
 
   -- ---- the whole table: the slices that a function leaves, and the others as they were
 

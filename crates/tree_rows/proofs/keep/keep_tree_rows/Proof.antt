@@ -1,5 +1,5 @@
 -- `keep_tree_rows` meets its contract: each slice is packed by the flags, and the two counts are those of the flags in the tree's part.
-use Rattle.tree_rows.proofs.Kept.{l0-ids-fit, l0-sizes-fit, run-ids-fit, run-sizes-fit, counts-fit, rows-end, runs-end, rows-few, runs-few, kept-l0-ids, kept-l0-sizes, kept-run-ids, kept-run-sizes, kept-trees}
+use Rattle.tree_rows.proofs.Kept.{run-ids-fit, run-sizes-fit, counts-fit, rows-end, runs-end, rows-few, runs-few, kept-l0-ids, kept-l0-sizes, kept-run-ids, kept-run-sizes, kept-trees}
 use borrow.Author.Needs.{needs}
 use Rattle.tree_rows.proofs.keep.keep_tree_rows.Statement.{statement}
 use Rattle.tree_rows.proofs.keep.keep_tree_rows.Tie as tie
@@ -20,10 +20,10 @@ add-last-run : tie.Need-add-last-run
 add-last-run c = search needs
 
 keep-rows-requires : tie.Need-keep-rows-requires
-keep-rows-requires c κs = l0-ids-fit (c .before .before .before .before .before .before .before .before .before .before .before .before .before .before .before .before .pre) (c .before .before .before .before .before .before .before .column-sum .ensures)
+keep-rows-requires c κs = search needs
 
 keep-rows-requires-2 : tie.Need-keep-rows-requires-2
-keep-rows-requires-2 c κs = l0-sizes-fit (c .before .before .before .before .before .before .before .before .before .before .before .before .before .before .before .before .before .before .before .before .pre) (c .before .before .before .before .before .before .before .before .before .before .before .column-sum .ensures)
+keep-rows-requires-2 c κs = search needs
 
 keep-rows-requires-3 : tie.Need-keep-rows-requires-3
 keep-rows-requires-3 c κs = run-ids-fit (c .before .before .before .before .before .before .before .before .before .before .before .before .before .before .before .before .before .before .before .before .before .before .before .before .pre) (c .before .before .before .before .before .before .before .before .before .before .before .before .before .column-sum2 .ensures)

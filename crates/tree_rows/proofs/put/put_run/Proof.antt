@@ -1,7 +1,7 @@
 -- `put_run` meets its contract: both columns are opened at the same place, and the count of tree i is one more.
 use mathlib.Core.Path.{refl}
 use native.Mathlib.Omega.{arith}
-use Rattle.tree_rows.proofs.Putting.{ids-fit, sizes-fit, count-few, put-run-ids, put-run-sizes, put-trees}
+use Rattle.tree_rows.proofs.Putting.{place-within, count-few, put-run-ids, put-run-sizes, put-trees}
 use borrow.Author.Needs.{needs}
 use Rattle.tree_rows.proofs.put.put_run.Statement.{statement}
 use Rattle.tree_rows.proofs.put.put_run.Tie as tie
@@ -13,13 +13,13 @@ slice-aggregate-open-rows : tie.Need-slice-aggregate-open-rows
 slice-aggregate-open-rows c = search needs
 
 open-rows-requires : tie.Need-open-rows-requires
-open-rows-requires c κs = ids-fit (c .before .before .before .before .before .before .before .pre) (c .before .before .before .before .before .before .before .args .id) (c .before .before .column-sum .ensures)
+open-rows-requires c κs = (omega (arith, place-within (c .before .before .before .before .before .before .before .pre), c .before .before .column-sum .ensures), omega (arith, c .before .before .before .before .before .before .before .pre .runs, c .before .before .before .before .before .before .before .pre .runIds, c .before .before .column-sum .ensures), omega arith)
 
 slice-aggregate-open-rows-2 : tie.Need-slice-aggregate-open-rows-2
 slice-aggregate-open-rows-2 c = search needs
 
 open-rows-requires-2 : tie.Need-open-rows-requires-2
-open-rows-requires-2 c κs = sizes-fit (c .before .before .before .before .before .before .before .before .before .before .before .before .pre) (c .before .before .before .before .before .before .before .before .before .before .before .before .args .size) (c .before .before .before .before .before .before .before .column-sum .ensures)
+open-rows-requires-2 c κs = (omega (arith, place-within (c .before .before .before .before .before .before .before .before .before .before .before .before .pre), c .before .before .before .before .before .before .before .column-sum .ensures), omega (arith, c .before .before .before .before .before .before .before .before .before .before .before .before .pre .runs, c .before .before .before .before .before .before .before .before .before .before .before .before .pre .runSizes, c .before .before .before .before .before .before .before .column-sum .ensures), omega arith)
 
 mul-trees : tie.Need-mul-trees
 mul-trees c = search needs
