@@ -2,3 +2,5 @@
 pub mod Clash
 pub mod Finding
 pub mod Placing
+pub mod Flagging
+pub mod Finishes

@@ -51,7 +51,9 @@ pub fn tables_refusal(
         l0_sizes,
         run_ids,
         run_sizes,
-    ) != 0 {
+    )
+        != 0
+    {
         return 2;
     }
     if jobs_refusal(
@@ -62,7 +64,9 @@ pub fn tables_refusal(
         source_marks,
         source_runs,
         source_views,
-    ) != 0 {
+    )
+        != 0
+    {
         return 2;
     }
     0
@@ -158,7 +162,17 @@ fn run_goes(
     requires { ⌜ SourceRoom (now «source_marks») (now «source_runs») (now «source_views») from n ⌝ }
     ensures { λ r. ⌜ r ≡ among (sortedRun run) (goneWith drain destination (namesIn (now («source_marks» .entry)) (now («source_runs» .entry)) (now («source_views» .entry)) from n)) ⌝ }
 {
-    if is_source(source_marks, source_runs, source_views, from, n, 1, run, 0, 0) {
+    if is_source(
+        source_marks,
+        source_runs,
+        source_views,
+        from,
+        n,
+        1,
+        run,
+        0,
+        0,
+    ) {
         return true;
     }
     if drain == 1 {
@@ -195,19 +209,17 @@ pub fn flag_rows(
     let mut k = 0;
     while k < rows {
         let i = first + k;
-        kept[i] = flag(
-            is_source(
-                source_marks,
-                source_runs,
-                source_views,
-                from,
-                n,
-                0,
-                0,
-                l0_ids[4 * i],
-                l0_ids[4 * i + 1],
-            ),
-        );
+        kept[i] = flag(is_source(
+            source_marks,
+            source_runs,
+            source_views,
+            from,
+            n,
+            0,
+            0,
+            l0_ids[4 * i],
+            l0_ids[4 * i + 1],
+        ));
         k += 1;
     }
 }
@@ -232,18 +244,16 @@ pub fn flag_runs(
     let mut k = 0;
     while k < runs {
         let i = first + k;
-        kept[i] = flag(
-            run_goes(
-                source_marks,
-                source_runs,
-                source_views,
-                from,
-                n,
-                drain,
-                destination,
-                run_ids[i],
-            ),
-        );
+        kept[i] = flag(run_goes(
+            source_marks,
+            source_runs,
+            source_views,
+            from,
+            n,
+            drain,
+            destination,
+            run_ids[i],
+        ));
         k += 1;
     }
 }

@@ -62,7 +62,7 @@ pub fn place_output(
     if output_clashes(run_ids, used, kept, output) {
         return Place::Refused(13);
     }
-    if MAX_RUNS <= wide(count_kept(&kept[..used])) {
+    if MAX_RUNS <= wide(count_kept(&kept[0..used])) {
         return Place::Refused(14);
     }
     let end = first + output_place(run_ids, first, runs, output);

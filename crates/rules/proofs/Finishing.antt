@@ -56,14 +56,14 @@ module _ {A : Type 0} (r : A → A → Bool) where
         rw (trans x y z e (and-left (r y z) (all (r y) zs) h)) (all-over x y e zs (and-right (r y z) (all (r y) zs) h))
 
     -- the first stands in r to all
-    linked-all : (x : A) (xs : List A) → linked r (x ∷ xs) ≡ true → all (r x) xs ≡ true
+    pub linked-all : (x : A) (xs : List A) → linked r (x ∷ xs) ≡ true → all (r x) xs ≡ true
     unfolding all linked
     linked-all x [] h = refl
     linked-all x (y ∷ ys) h =
         let e = and-left (r x y) (linked r (y ∷ ys)) h in
         rw e (all-over x y e ys (linked-all y ys (and-right (r x y) (linked r (y ∷ ys)) h)))
 
-    linked-rest : (x : A) (xs : List A) → linked r (x ∷ xs) ≡ true → linked r xs ≡ true
+    pub linked-rest : (x : A) (xs : List A) → linked r (x ∷ xs) ≡ true → linked r xs ≡ true
     linked-rest x xs h = sym (linked-cons x xs (linked-all x xs h)) ∙ h
 
     linked-keep : (q : A → Bool) (xs : List A) → linked r xs ≡ true → linked r (keep q xs) ≡ true

@@ -9,6 +9,7 @@ pub mod ReadBack
 pub mod Lookups
 pub mod Refusals
 pub mod Bounds
+pub mod Ulids
 pub mod Finishing
 pub mod Digits
 pub mod Nearest

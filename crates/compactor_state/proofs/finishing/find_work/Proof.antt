@@ -10,7 +10,6 @@ use Rattle.compactor_state.proofs.finishing.find_work.Lts as lts
 use Rattle.rows.proofs.find.find_job.Reads as find-job-reads
 use Rattle.rows.proofs.find.find_prefix.Reads as find-prefix-reads
 
-
 -- src/finishing.rt:102:9
 find-job-requires : tie.Need-find-job-requires
 find-job-requires c κs = search needs

@@ -13,7 +13,6 @@ use Rattle.compactor_state.proofs.finishing.flag_rows.Lts as lts
 use Rattle.compactor_state.proofs.finishing.flag.Reads as flag-reads
 use Rattle.compactor_state.proofs.finishing.is_source.Reads as is-source-reads
 
-
 abbrev Inv-loop : tie.InvT-loop
 Inv-loop l0-ids first rows source-marks source-runs source-views from n kept₀ k₀ kept k = Flagging kept₀ (λ k. flagOf (among (sstView (ulidAt l0-ids (4 * k))) (namesIn source-marks source-runs source-views from n))) first rows kept k
 

@@ -13,7 +13,6 @@ use Rattle.compactor_state.proofs.finishing.flag_runs.Lts as lts
 use Rattle.compactor_state.proofs.finishing.flag.Reads as flag-reads
 use Rattle.compactor_state.proofs.finishing.run_goes.Reads as run-goes-reads
 
-
 abbrev Inv-loop : tie.InvT-loop
 Inv-loop run-ids first runs source-marks source-runs source-views from n drain destination kept₀ k₀ kept k = Flagging kept₀ (λ k. flagOf (among (sortedRun (getD run-ids k 0)) (goneWith drain destination (namesIn source-marks source-runs source-views from n)))) first runs kept k
 

@@ -13,7 +13,6 @@ use Rattle.compactor_state.proofs.finishing.is_source.Reads as reads
 use Rattle.compactor_state.proofs.finishing.is_source.Lts as lts
 use Rattle.rows.proofs.ids.same_source.Reads as same-source-reads
 
-
 abbrev Inv-loop : tie.InvT-loop
 Inv-loop source-marks source-runs source-views from n mark run high low end i₀ i = Left (any (λ y. sameId y (idOf (record { mark = mark; run = run; view = record { high = high; low = low } })))) (λ k. idOf (sourceAt source-marks source-runs source-views k)) (from + n) i (any (λ y. sameId y (idOf (record { mark = mark; run = run; view = record { high = high; low = low } }))) (rowsFrom (λ k. idOf (sourceAt source-marks source-runs source-views k)) from n))
 

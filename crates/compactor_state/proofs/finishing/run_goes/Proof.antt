@@ -8,7 +8,6 @@ use Rattle.compactor_state.proofs.finishing.run_goes.Reads as reads
 use Rattle.compactor_state.proofs.finishing.run_goes.Lts as lts
 use Rattle.compactor_state.proofs.finishing.is_source.Reads as is-source-reads
 
-
 -- src/finishing.rt:170:8
 is-source-requires : tie.Need-is-source-requires
 is-source-requires c κs = search needs

@@ -36,7 +36,6 @@ J c =
     (c .args .source-runs .now)
     (c .args .source-views .now)
 
-
 -- src/finishing.rt:48:8
 trees-outside-requires : tie.Need-trees-outside-requires
 trees-outside-requires c κs = search needs

@@ -14,7 +14,6 @@ use Rattle.compactor_state.proofs.output.output_place.Tie as tie
 use Rattle.compactor_state.proofs.output.output_place.Reads as reads
 use Rattle.compactor_state.proofs.output.output_place.Lts as lts
 
-
 abbrev Inv-loop : tie.InvT-loop
 Inv-loop run-ids first runs output end i₀ i = Sought (λ x. leb x output) (λ k. getD run-ids k 0) (first + runs) first i (leading (λ x. not (leb x output)) (rowsFrom (λ k. getD run-ids k 0) first runs))
 

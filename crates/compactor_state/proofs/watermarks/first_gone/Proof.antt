@@ -14,7 +14,6 @@ use Rattle.compactor_state.proofs.watermarks.first_gone.Tie as tie
 use Rattle.compactor_state.proofs.watermarks.first_gone.Reads as reads
 use Rattle.compactor_state.proofs.watermarks.first_gone.Lts as lts
 
-
 abbrev Inv-loop : tie.InvT-loop
 Inv-loop kept first rows end i₀ i = Sought (λ x. eqb x 0) (λ k. getD kept k 0) (first + rows) first i (leading (λ x. not (eqb x 0)) (rowsFrom (λ k. getD kept k 0) first rows))
 

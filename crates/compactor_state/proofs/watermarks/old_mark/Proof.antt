@@ -10,7 +10,6 @@ use Rattle.compactor_state.proofs.watermarks.old_mark.Tie as tie
 use Rattle.compactor_state.proofs.watermarks.old_mark.Reads as reads
 use Rattle.compactor_state.proofs.watermarks.old_mark.Lts as lts
 
-
 -- src/watermarks.rt:33:36
 mul-t4 : tie.Need-mul-t4
 mul-t4 c = search needs
