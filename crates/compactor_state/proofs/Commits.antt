@@ -1,25 +1,25 @@
 -- What finish and drain answer, by what is found: refused, the segment missing, or a tree that changes.
 use Prim.Native.Nat.{ℕ, zero, suc, _+_, _*_, _≤_, _<_}
 use mathlib.Core.Path.{_≡_, refl, sym, ap, ap₂, subst, _∙_}
-use mathlib.Core.List.{List, [], _∷_, _++_, map, append-nil}
-use mathlib.Core.Bool.{Bool, true, false, cond, _&&_, _||_, not}
+use mathlib.Core.List.{List, append-nil}
+use mathlib.Core.Bool.{Bool, true, false, cond, _||_, not}
 use mathlib.Core.Option.{Option, some, none}
 use native.Mathlib.Omega.{arith}
-use lib.Dec.{eqb, leb}
+use lib.Dec.{leb}
 use lib.ListN.{length, getD, take, drop, set, length-append, take-append-drop}
 use borrow.Author.Tests.{eq-eqb, ne-eqb, leb-false}
 use Rattle.rules.specs.declared.FinishAnswer.the-variants.{Committed, SegmentMissing}
-use Rattle.rules.specs.Lists.{keep, leading, total, _given_else_}
-use Rattle.rules.specs.Tables.{Ulid, sameUlid, L0Row, Run, Tree, Job, Watermark, SourceId, idOf, among, viewId, runId, isDrain}
-use Rattle.rules.specs.Lent.{LentTrees, LentJobs, rowsFrom, l0At, runAt, watermarkAt, l0Count, runCount, sourceCount, sourceAt, treeAt, treesOf, jobsOf, runsUsed, l0Used, sourcesUsed, runsOf, layTrees}
+use Rattle.rules.specs.Lists.{keep, total, _given_else_}
+use Rattle.rules.specs.Tables.{Ulid, sameUlid, L0Row, Run, Tree, Job, Watermark, SourceId, idOf, among, viewId, runId}
+use Rattle.rules.specs.Lent.{LentTrees, LentJobs, rowsFrom, l0At, watermarkAt, l0Count, runCount, sourceCount, sourceAt, treeAt, treesOf, jobsOf, runsUsed, l0Used, sourcesUsed, layTrees}
 use Rattle.rules.specs.Bounds.{maxL0, maxRuns, treesOutside, jobsOutside, treesMisshapen, jobsMisshapen, treesRefusal, jobsRefusal}
 use Rattle.rules.specs.Validation.{treeWith, isEmpty}
 use Rattle.rules.specs.Jobs.{jobWith}
-use Rattle.rules.specs.Finish.{named, runsLeft, outputPlace, withOutput, finishMark, drainMark, finishTree, drainTree, inTree, misplaced, tooManyRuns, finishTreeRefusal, finishJobRefusal, finishRefusal, drainJobRefusal, drainRefusal}
-use Rattle.rules.specs.Calls.{FinishResult, marksAt, finishedIn, finishedFor, finishBy, finishCall, drainCall}
+use Rattle.rules.specs.Finish.{named, runsLeft, outputPlace, finishMark, drainMark, finishTree, drainTree, inTree, misplaced, tooManyRuns, finishTreeRefusal, finishJobRefusal, finishRefusal, drainJobRefusal, drainRefusal}
+use Rattle.rules.specs.Calls.{marksAt, finishedIn, finishedFor, finishBy, finishCall, drainCall}
 use Rattle.rules.proofs.Records.{tree-eq}
 use Rattle.rules.proofs.Rows.{map-rowsFrom}
-use Rattle.rules.proofs.Packed.{length-treesOf, length-jobsOf, tree-is, job-is}
+use Rattle.rules.proofs.Packed.{length-treesOf, tree-is, job-is}
 use Rattle.rules.proofs.Lookups.{found-has}
 use Rattle.rules.proofs.Bounds.{TreesGood, JobsGood, trees-good, jobs-good}
 use Rattle.rules.proofs.Finishing.{keep-append, output-put}

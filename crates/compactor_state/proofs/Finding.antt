@@ -1,29 +1,27 @@
 -- What finish and drain find: refusals 1 and 2 of both tables, the job and its tree, and which rows go.
-use Prim.Native.Nat.{ℕ, zero, suc, _+_, _-_, _*_, _≤_, _<_}
+use Prim.Native.Nat.{ℕ, _+_, _-_, _*_, _≤_, _<_}
 use mathlib.Core.Path.{_≡_, refl, sym, ap, _∙_}
-use mathlib.Core.List.{List, [], _∷_, _++_, map}
+use mathlib.Core.List.{List, [], _∷_}
 use mathlib.Core.Bool.{Bool, true, false, cond, _&&_, _||_, not}
-use mathlib.Core.Option.{some, none}
 use native.Mathlib.Omega.{arith}
 use lib.Dec.{eqb, leb}
 use lib.ListN.{length, getD, set}
 use lib.Seq.{paste}
 use borrow.Author.Tests.{eq-eqb, ne-eqb, leb-true}
 use Rattle.rules.specs.Lists.{any, all, leading, linked, _given_else_}
-use Rattle.rules.specs.Tables.{Ulid, sameUlid, ulidBelow, Run, Job, SourceId, sortedRun, sameId, among}
-use Rattle.rules.specs.Lent.{LentTrees, LentJobs, rowsFrom, ulidAt, treesOf, jobsOf, jobAt}
+use Rattle.rules.specs.Tables.{Ulid, sameUlid, ulidBelow, SourceId, sortedRun, sameId, among}
+use Rattle.rules.specs.Lent.{LentTrees, LentJobs, rowsFrom, ulidAt, jobsOf, jobAt}
 use Rattle.rules.specs.Bounds.{treesOutside, jobsOutside, treesMisshapen, jobsMisshapen, treesRefusal, jobsRefusal, isMark, goodSources, goodJob, goodJobs}
-use Rattle.rules.specs.Jobs.{jobWith}
 use Rattle.rules.specs.Finish.{finishJobRefusal, drainJobRefusal}
 use Rattle.rules.proofs.Appended.{any-append}
 use Rattle.rules.proofs.Rows.{length-rowsFrom, getD-rowsFrom}
 use Rattle.rules.proofs.Lookups.{and-left, and-right, all-at}
 use Rattle.rules.proofs.Packed.{length-jobsOf, job-is}
-use Rattle.rules.proofs.Bounds.{TreesGood, JobsGood, trees-good, jobs-good}
+use Rattle.rules.proofs.Bounds.{trees-good, jobs-good}
 use Rattle.rows.proofs.Finds.{Sought, seek-starts-at}
 use Rattle.rows.proofs.Scans.{Left}
 use Rattle.rows.proofs.Paste.{Pasted, pasted-none, pasted-more, pasted-all}
-use Rattle.rows.proofs.Found.{job-found, job-missing, tree-found, tree-missing}
+use Rattle.rows.proofs.Found.{job-found, job-missing, tree-found}
 use Rattle.compactor_state.specs.Finding.{tablesRefusal, NoWork, JobFound, TreeFound, jobIn, goneWith}
 
 -- ---- refusals 1 and 2

@@ -1,5 +1,5 @@
 -- What finish and drain leave: the slices after each step, put together.
-use Prim.Native.Nat.{ℕ, zero, suc, _+_, _-_, _*_, _≤_, _<_, max}
+use Prim.Native.Nat.{ℕ, _+_, _-_, _*_, _≤_, _<_}
 use mathlib.Core.Path.{_≡_, refl, sym, ap, ap₂, subst, _∙_}
 use mathlib.Core.List.{List}
 use mathlib.Core.Bool.{Bool}
@@ -7,10 +7,10 @@ use native.Mathlib.Omega.{arith}
 use lib.ListN.{length, getD, set}
 use Rattle.rules.specs.declared.FinishAnswer.{FinishAnswer}
 use Rattle.rules.specs.declared.FinishAnswer.the-variants.{Committed, SegmentMissing, Refused}
-use Rattle.rules.specs.Lists.{keep, concatMap}
+use Rattle.rules.specs.Lists.{keep}
 use Rattle.rules.specs.Tables.{Ulid, L0Row, Run, Tree, Watermark}
 use Rattle.rules.specs.Lent.{LentTrees, LentJobs, lentTrees, treeAt, treesOf, layTrees, l0Used, runsUsed, l0Of, runsOf}
-use Rattle.rules.specs.Bounds.{maxTrees, maxL0, maxRuns}
+use Rattle.rules.specs.Bounds.{maxL0, maxRuns}
 use Rattle.rules.specs.Calls.{FinishResult}
 use Rattle.rules.proofs.Packed.{length-treesOf, length-l0, length-runs}
 use Rattle.rules.proofs.ReadBack.{trees-back}
@@ -18,7 +18,7 @@ use Rattle.rules.proofs.Bounds.{TreesWithin, TreesLent, TreesGood, trees-good}
 use Rattle.tree_rows.specs.Change.{changedAt, keepRows, putRun, putWatermark}
 use Rattle.tree_rows.specs.Slices.{RowsOf, RunsOf, MarksOf, KeepRoom, PutRoom, runsBefore}
 use Rattle.tree_rows.proofs.Changes.{length-changed, changed-keeps, changed-twice, changed-there}
-use Rattle.tree_rows.proofs.Again.{laid-l0-used, laid-runs-used, changed-again}
+use Rattle.tree_rows.proofs.Again.{laid-runs-used, changed-again}
 use Rattle.tree_rows.proofs.Stays.{count-stays, whole-rows, whole-runs, whole-marks}
 use Rattle.tree_rows.proofs.Room.{keep-room, put-room, laid-within, laid-lent, changed-fewer, keep-fewer, put-more, first-run-stays}
 use Rattle.compactor_state.specs.declared.finish.Outcome.{Outcome}

@@ -1,7 +1,7 @@
 -- The watermarks that finish and drain leave, by the rows that the look-ups find.
 use Prim.Native.Nat.{ℕ, zero, suc, _+_, _-_, _*_, _≤_, _<_, suc-le-suc}
-use mathlib.Core.Path.{_≡_, refl, sym, ap, ap₂, _∙_}
-use mathlib.Core.List.{List, [], _∷_, map}
+use mathlib.Core.Path.{_≡_, refl, sym, ap, _∙_}
+use mathlib.Core.List.{List, [], _∷_}
 use mathlib.Core.Bool.{Bool, true, false, cond, not}
 use mathlib.Core.Option.{some, none}
 use native.Mathlib.Nat.{add-zero, zero-lt-suc, le-of-suc-le-suc, not-suc-le-zero}
@@ -9,9 +9,9 @@ use native.Mathlib.Omega.{arith}
 use lib.Dec.{eqb}
 use lib.ListN.{length, getD}
 use borrow.Author.Tests.{eq-eqb, ne-eqb}
-use Rattle.rules.specs.Lists.{firstWith, leading, keep}
-use Rattle.rules.specs.Tables.{Ulid, sameUlid, L0Row, Tree, Watermark}
-use Rattle.rules.specs.Lent.{LentTrees, rowsFrom, ulidAt, l0At, watermarkAt}
+use Rattle.rules.specs.Lists.{leading, keep}
+use Rattle.rules.specs.Tables.{Ulid, sameUlid, L0Row, Tree}
+use Rattle.rules.specs.Lent.{LentTrees, rowsFrom, ulidAt, l0At}
 use Rattle.rules.specs.Finish.{absent, rowOfView, markAt, finishMark, drainMark}
 use Rattle.rules.proofs.Rows.{length-rowsFrom, getD-rowsFrom, map-rowsFrom}
 use Rattle.rules.proofs.Lookups.{leading-found, leading-none}

@@ -7,15 +7,13 @@ use native.Mathlib.Omega.{arith}
 use lib.ListN.{length, getD, take, drop, replicate, length-replicate, getD-replicate, List·getD-append}
 use lib.Seq.{paste, length-paste, length-paste-head, length-take-le, getD-append-add, getD-take, getD-drop}
 use Rattle.rules.specs.Lists.{total}
-use Rattle.rules.specs.Tables.{L0Row, Run, SourceId, Job, idOf, among, sortedRun, sstView, viewId, runId}
-use Rattle.rules.specs.Lent.{LentTrees, LentJobs, rowsFrom, ulidAt, l0At, runAt, l0Count, sourceAt, sourceCount, l0Used, runsUsed}
+use Rattle.rules.specs.Tables.{SourceId, idOf, among, sortedRun, sstView, viewId, runId}
+use Rattle.rules.specs.Lent.{LentTrees, LentJobs, rowsFrom, ulidAt, l0At, runAt, sourceAt, sourceCount, l0Used, runsUsed}
 use Rattle.rules.specs.Bounds.{maxL0, maxRuns}
 use Rattle.rules.specs.Finish.{named}
 use Rattle.rules.proofs.Rows.{length-rowsFrom, getD-rowsFrom, map-rowsFrom}
 use Rattle.rows.specs.Movers.{marked}
 use Rattle.rows.specs.Read.{Stands, Entries}
-use Rattle.tree_rows.specs.Change.{L0Flags, RunFlags}
-use Rattle.tree_rows.specs.Slices.{rowsBefore}
 use Rattle.tree_rows.proofs.Flagged.{l0-flags, run-flags}
 use Rattle.compactor_state.specs.Finding.{jobIn, namesIn, goneWith, flagOf, SourceRoom}
 use Rattle.compactor_state.specs.Flagging.{TreeRoom, JobRoom, Unflagged, rowStays, runStays, Flags}

@@ -1,23 +1,20 @@
 -- A job's status set in the slice of marks is the jobs laid with that job at the status: ids rise, so that one job has the id.
-use Prim.Native.Nat.{ℕ, zero, suc, _+_, _-_, _*_, _≤_, _<_, max}
-use mathlib.Core.Path.{_≡_, refl, sym, ap, ap₂, _∙_}
-use mathlib.Core.List.{List, [], _∷_, _++_, map}
-use mathlib.Core.Bool.{Bool, true, false, cond, _&&_, _||_, not, true≢false}
-use mathlib.Core.Option.{Option, some, none}
+use Prim.Native.Nat.{ℕ, zero, suc, _+_, _*_, _≤_, _<_}
+use mathlib.Core.Path.{_≡_, refl, sym, ap, _∙_}
+use mathlib.Core.List.{List, [], _∷_, _++_}
+use mathlib.Core.Bool.{Bool, true, false}
 use native.Mathlib.Nat.{le-of-suc-le-suc, not-suc-le-zero}
 use native.Mathlib.Omega.{arith}
-use lib.Dec.{eqb, ltb}
-use lib.ListN.{length, getD, take, drop, set, length-set, take-append-drop, length-append}
+use lib.ListN.{length, getD, take, drop, set, length-set, take-append-drop}
 use lib.Seq.{set-append-left, drop-cons}
-use borrow.Author.Tests.{ltb-true, eqb-true, eqb-false, ne-eqb, lt-ltb, le-ltb}
-use Rattle.rules.specs.Lists.{any, all, linked, concatMap}
+use Rattle.rules.specs.Lists.{all, linked, concatMap}
 use Rattle.rules.specs.Tables.{Ulid, sameUlid, ulidBelow, Job, withStatus}
 use Rattle.rules.specs.Lent.{LentJobs, rowsFrom, jobsFrom, jobsOf, sourceCount, jobMarkWords, laid, layJobs}
 use Rattle.rules.specs.Bounds.{goodJob, goodJobs}
 use Rattle.rules.specs.Finish.{setStatus}
 use Rattle.rules.specs.Calls.{marksAt}
 use Rattle.rules.proofs.Rows.{length-words, words-of-rows}
-use Rattle.rules.proofs.Packed.{length-jobsOf, job-is}
+use Rattle.rules.proofs.Packed.{length-jobsOf}
 use Rattle.rules.proofs.Lookups.{and-left, and-right, all-at, same-ulid, ulid-same}
 use Rattle.rules.proofs.Ulids.{below-trans, below-other}
 use Rattle.rules.proofs.Finishing.{linked-all, linked-rest}

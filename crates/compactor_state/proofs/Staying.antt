@@ -1,7 +1,7 @@
 -- Refusals 13 and 14 and the output's place, by the flags of the runs that stay.
-use Prim.Native.Nat.{ℕ, zero, suc, _+_, _-_, _≤_, _<_}
+use Prim.Native.Nat.{ℕ, zero, suc, _+_, _≤_, _<_}
 use mathlib.Core.Path.{_≡_, refl, sym, ap, ap₂, _∙_}
-use mathlib.Core.List.{List, [], _∷_, _++_, map, append-nil, map-append}
+use mathlib.Core.List.{List, [], _∷_, _++_, map, map-append}
 use mathlib.Core.Bool.{Bool, true, false, cond, _&&_, _||_, not, or-assoc}
 use native.Mathlib.Nat.{le-of-suc-le-suc, not-suc-le-zero}
 use native.Mathlib.Omega.{arith}
@@ -13,9 +13,9 @@ use Rattle.rules.specs.Lists.{any, all, keep, leading, distinct, concatMap}
 use Rattle.rules.specs.Tables.{sameUlid, L0Row, Run, Tree, Job, SourceId, sortedRun, among, runId}
 use Rattle.rules.specs.Lent.{LentTrees, rowsFrom, runAt, treesOf, runsUsed, l0Of, runsOf}
 use Rattle.rules.specs.Bounds.{maxRuns, firstIsRoot, fallingIds, goodMarks, goodTrees}
-use Rattle.rules.specs.Finish.{named, runsLeft, outputPlace, withOutput, finishTree, inTree, misplaced, tooManyRuns}
+use Rattle.rules.specs.Finish.{named, runsLeft, outputPlace, finishTree, misplaced, tooManyRuns}
 use Rattle.rules.proofs.Appended.{any-append}
-use Rattle.rules.proofs.Rows.{length-rowsFrom, map-rowsFrom}
+use Rattle.rules.proofs.Rows.{map-rowsFrom}
 use Rattle.rules.proofs.Packed.{runs-first, length-runs, length-treesOf, tree-is}
 use Rattle.rules.proofs.Lookups.{and-left, and-right, or-left, or-right, none-at, all-at}
 use Rattle.rules.proofs.Finishing.{output-falls, output-more}

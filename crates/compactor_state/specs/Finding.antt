@@ -2,17 +2,17 @@
 use Prim.Native.Nat.{ℕ, _+_, _*_, _≤_, _<_}
 use mathlib.Core.Path.{_≡_}
 use mathlib.Core.List.{List, [], _∷_, _++_}
-use mathlib.Core.Bool.{Bool, cond, not, _||_}
+use mathlib.Core.Bool.{Bool, cond, _||_}
 use mathlib.Core.Option.{some, none}
 use lib.Dec.{eqb}
 use lib.ListN.{length, getD}
 use Rattle.rules.specs.Lists.{total, _given_else_}
-use Rattle.rules.specs.Tables.{Ulid, Run, Job, SourceId, sortedRun, idOf, isDrain}
+use Rattle.rules.specs.Tables.{Ulid, Run, Job, SourceId, sortedRun, idOf}
 use Rattle.rules.specs.Lent.{LentTrees, LentJobs, rowsFrom, sourceAt, treeAt, treesOf, jobAt, jobsOf, l0Count, runCount, sourceCount}
 use Rattle.rules.specs.Bounds.{treesOutside, jobsOutside, treesMisshapen, jobsMisshapen}
-use Rattle.rules.specs.Validation.{treeWith, isEmpty}
+use Rattle.rules.specs.Validation.{treeWith}
 use Rattle.rules.specs.Jobs.{jobWith}
-use Rattle.rules.specs.Finish.{named, finishJobRefusal, drainJobRefusal}
+use Rattle.rules.specs.Finish.{finishJobRefusal, drainJobRefusal}
 use Rattle.compactor_state.specs.declared.finishing.Work.{Work}
 use Rattle.compactor_state.specs.declared.finishing.Work.the-variants.{Refused, Missing, Found}
 

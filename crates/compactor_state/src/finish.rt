@@ -7,7 +7,7 @@ ghost use Rattle.rules.specs.Tables.{Ulid, Run};
 ghost use Rattle.rules.specs.Lent.{lentTrees, lentJobs};
 ghost use Rattle.rules.specs.Bounds.{treesRefusal, jobsRefusal};
 ghost use Rattle.rules.specs.Calls.{finishCall};
-ghost use Rattle.compactor_state.specs.Finding.{JobFound, TreeFound, jobIn};
+ghost use Rattle.compactor_state.specs.Finding.{JobFound, TreeFound};
 ghost use Rattle.compactor_state.specs.Flagging.{TreeRoom, JobRoom, Unflagged};
 ghost use Rattle.compactor_state.specs.Finishes.{FinishFound, Leaves};
 use crate::finishing::Work;

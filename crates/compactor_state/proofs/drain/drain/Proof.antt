@@ -1,16 +1,10 @@
--- `compactor_state::drain::drain` meets its contract. Assumes nothing.
+-- `drain` meets its contract: what was found is one case of `drainCall`, and the steps of the change make that case's table (`drain-leaves`).
 use mathlib.Core.Path.{refl}
 use Rattle.rules.specs.Lent.{LentTrees, LentJobs, lentTrees, lentJobs}
 use Rattle.compactor_state.proofs.Leaving.{drain-is, leaves-refused, leaves-missing, drain-keep-asks, drain-watermark-asks, drain-leaves}
 use borrow.Author.Needs.{needs}
 use Rattle.compactor_state.proofs.drain.drain.Statement.{statement}
 use Rattle.compactor_state.proofs.drain.drain.Tie as tie
-use Rattle.compactor_state.proofs.drain.drain.Reads as reads
-use Rattle.compactor_state.proofs.drain.drain.Lts as lts
-use Rattle.compactor_state.proofs.drain.find_drain.Reads as find-drain-reads
-use Rattle.compactor_state.proofs.finishing.set_status.Reads as set-status-reads
-use Rattle.tree_rows.proofs.keep.keep_tree_rows.Reads as keep-tree-rows-reads
-use Rattle.tree_rows.proofs.watermark.set_watermark.Reads as set-watermark-reads
 
 -- the tables as they are lent, and the id
 abbrev T : tie.Start → LentTrees
@@ -36,167 +30,128 @@ J c =
     (c .args .source-runs .now)
     (c .args .source-views .now)
 
--- src/drain.rt:210:9
 slice-aggregate-find-drain : tie.Need-slice-aggregate-find-drain
 slice-aggregate-find-drain c = search needs
 
--- src/drain.rt:211:9
 slice-aggregate-find-drain-2 : tie.Need-slice-aggregate-find-drain-2
 slice-aggregate-find-drain-2 c = search needs
 
--- src/drain.rt:192:9
 find-drain-requires : tie.Need-find-drain-requires
 find-drain-requires c κs = search needs
 
--- src/drain.rt:214:26
 enum-known-found : tie.Need-enum-known-found
 enum-known-found c = search needs
 
--- src/drain.rt:215:26
 enum-known-found-2 : tie.Need-enum-known-found-2
 enum-known-found-2 c = search needs
 
--- src/drain.rt:216:13
 set-status-requires : tie.Need-set-status-requires
 set-status-requires c κs =
     let m = drain-is (c .before .before .found2 .given .1) (c .before .before .before .before .before .before .find-drain .ensures) .holds in
     m .room
 
--- src/drain.rt:220:13
 enum-known-found-3 : tie.Need-enum-known-found-3
 enum-known-found-3 c = search needs
 
--- src/drain.rt:232:17
 slice-aggregate-keep-tree-rows : tie.Need-slice-aggregate-keep-tree-rows
 slice-aggregate-keep-tree-rows c = search needs
 
--- src/drain.rt:233:17
 slice-aggregate-keep-tree-rows-2 : tie.Need-slice-aggregate-keep-tree-rows-2
 slice-aggregate-keep-tree-rows-2 c = search needs
 
--- src/drain.rt:224:13
 keep-tree-rows-requires : tie.Need-keep-tree-rows-requires
 keep-tree-rows-requires c κs =
     let m = drain-is (c .before .before .before .before .before .before .before .before .found3 .given .1) (c .before .before .before .before .before .before .before .before .before .before .before .before .find-drain .ensures) .holds in
     drain-keep-asks m
 
--- src/drain.rt:235:13
 set-watermark-requires : tie.Need-set-watermark-requires
 set-watermark-requires c κs =
     let m = drain-is (c .before .before .before .before .before .before .before .before .before .before .before .before .before .before .before .before .before .before .before .before .before .found3 .given .1) (c .before .before .before .before .before .before .before .before .before .before .before .before .before .before .before .before .before .before .before .before .before .before .before .before .before .find-drain .ensures) .holds in
     drain-watermark-asks m
 
--- src/drain.rt:246:13
 set-status-requires-2 : tie.Need-set-status-requires-2
 set-status-requires-2 c κs =
     let m = drain-is (c .before .before .before .before .before .before .before .before .before .before .before .before .before .before .before .before .before .before .before .before .before .before .before .before .before .before .before .found3 .given .1) (c .before .before .before .before .before .before .before .before .before .before .before .before .before .before .before .before .before .before .before .before .before .before .before .before .before .before .before .before .before .before .before .find-drain .ensures) .holds in
     m .room
 
--- src/drain.rt:169:1
 same-length : tie.Need-same-length
 same-length c = search needs
 
--- src/drain.rt:169:1
 same-length-2 : tie.Need-same-length-2
 same-length-2 c = search needs
 
--- src/drain.rt:169:1
 same-length-3 : tie.Need-same-length-3
 same-length-3 c = search needs
 
--- src/drain.rt:169:1
 same-length-4 : tie.Need-same-length-4
 same-length-4 c = search needs
 
--- src/drain.rt:169:1
 same-length-5 : tie.Need-same-length-5
 same-length-5 c = search needs
 
--- src/drain.rt:169:1
 same-length-6 : tie.Need-same-length-6
 same-length-6 c = search needs
 
--- src/drain.rt:169:1
 same-length-7 : tie.Need-same-length-7
 same-length-7 c = search needs
 
--- src/drain.rt:169:1
 same-length-8 : tie.Need-same-length-8
 same-length-8 c = search needs
 
--- src/drain.rt:169:1
 returns : tie.Need-returns
 returns c = leaves-refused (J (c .before .before .before .before .before .before .before .before .before .before .before .before .before .before .before .before .before .before .before .before .before .before .before .before .before .before .before .before .before)) (drain-is (c .before .found .given .1) (c .before .before .before .before .before .find-drain .ensures) .holds)
 
--- src/drain.rt:169:1
 same-length-9 : tie.Need-same-length-9
 same-length-9 c = search needs
 
--- src/drain.rt:169:1
 same-length-10 : tie.Need-same-length-10
 same-length-10 c = search needs
 
--- src/drain.rt:169:1
 same-length-11 : tie.Need-same-length-11
 same-length-11 c = search needs
 
--- src/drain.rt:169:1
 same-length-12 : tie.Need-same-length-12
 same-length-12 c = search needs
 
--- src/drain.rt:169:1
 same-length-13 : tie.Need-same-length-13
 same-length-13 c = search needs
 
--- src/drain.rt:169:1
 same-length-14 : tie.Need-same-length-14
 same-length-14 c = search needs
 
--- src/drain.rt:169:1
 same-length-15 : tie.Need-same-length-15
 same-length-15 c = search needs
 
--- src/drain.rt:169:1
 same-length-16 : tie.Need-same-length-16
 same-length-16 c = search needs
 
--- src/drain.rt:169:1
 returns-2 : tie.Need-returns-2
 returns-2 c = leaves-missing (J (c .before .before .before .before .before .before .before .before .before .before .before .before .before .before .before .before .before .before .before .before .before .before .before .before .before .before .before .before .before .before .before .before .before)) (drain-is (c .before .before .before .before .before .found2 .given .1) (c .before .before .before .before .before .before .before .before .before .find-drain .ensures) .holds) (c .before .before .set-status .ensures)
 
--- src/drain.rt:169:1
 same-length-17 : tie.Need-same-length-17
 same-length-17 c = search needs
 
--- src/drain.rt:169:1
 same-length-18 : tie.Need-same-length-18
 same-length-18 c = search needs
 
--- src/drain.rt:169:1
 same-length-19 : tie.Need-same-length-19
 same-length-19 c = search needs
 
--- src/drain.rt:169:1
 same-length-20 : tie.Need-same-length-20
 same-length-20 c = search needs
 
--- src/drain.rt:169:1
 same-length-21 : tie.Need-same-length-21
 same-length-21 c = search needs
 
--- src/drain.rt:169:1
 same-length-22 : tie.Need-same-length-22
 same-length-22 c = search needs
 
--- src/drain.rt:169:1
 same-length-23 : tie.Need-same-length-23
 same-length-23 c = search needs
 
--- src/drain.rt:169:1
 same-length-24 : tie.Need-same-length-24
 same-length-24 c = search needs
 
--- src/drain.rt:169:1
 returns-3 : tie.Need-returns-3
 returns-3 c =
     let m = drain-is (c .before .before .before .before .before .before .before .before .before .before .before .before .before .before .before .before .before .before .before .before .before .before .before .before .before .before .before .before .before .before .found3 .given .1) (c .before .before .before .before .before .before .before .before .before .before .before .before .before .before .before .before .before .before .before .before .before .before .before .before .before .before .before .before .before .before .before .before .before .before .find-drain .ensures) .holds in

@@ -1,19 +1,13 @@
--- `compactor_state::drain::mark_drain` meets its contract. Assumes nothing.
-use mathlib.Core.Path.{refl, sym, ap, _∙_}
+-- `mark_drain` meets its contract: the first row that goes decides (`drain-commits`).
+use mathlib.Core.Path.{refl}
 use mathlib.Core.List.{List}
 use Prim.Native.Nat.{ℕ}
-use native.Mathlib.Omega.{arith}
 use Rattle.rules.specs.Lent.{LentTrees, LentJobs, lentTrees, lentJobs}
 use Rattle.compactor_state.specs.Placing.{markOf}
 use Rattle.compactor_state.proofs.Commits.{drain-commits, drain-mark-fit, drained-mark}
 use borrow.Author.Needs.{needs}
 use Rattle.compactor_state.proofs.drain.mark_drain.Statement.{statement}
 use Rattle.compactor_state.proofs.drain.mark_drain.Tie as tie
-use Rattle.compactor_state.proofs.drain.mark_drain.Reads as reads
-use Rattle.compactor_state.proofs.drain.mark_drain.Lts as lts
-use Rattle.compactor_state.proofs.flagging.flag_tree.Reads as flag-tree-reads
-use Rattle.compactor_state.proofs.watermarks.drain_mark.Reads as drain-mark-reads
-use Rattle.rows.proofs.read.tree_rows.Reads as tree-rows-reads
 
 -- the tables with these slices beside those that are lent
 abbrev T : tie.Start → List ℕ → List ℕ → LentTrees
@@ -39,27 +33,21 @@ J c ids jobMarks =
     (c .args .source-runs .now)
     (c .args .source-views .now)
 
--- src/drain.rt:58:5
 flag-tree-requires : tie.Need-flag-tree-requires
 flag-tree-requires c κs = search needs
 
--- src/drain.rt:74:9
 tree-rows-requires : tie.Need-tree-rows-requires
 tree-rows-requires c κs = search needs
 
--- src/drain.rt:75:5
 drain-mark-requires : tie.Need-drain-mark-requires
 drain-mark-requires c κs = drain-mark-fit (c .before .before .before .before .before .before .before .before .before .before .before .before .before .before .before .before .before .before .before .before .pre .0) (c .before .tree-rows .ensures) (c .before .before .before .before .before .before .before .before .before .before .before .before .before .before .before .before .before .before .before .before .pre .3) (c .before .before .before .before .before .before .before .before .before .before .before .before .before .before .before .before .before .before .before .before .pre .4) (c .before .before .before .before .before .before .flag-tree .ensures (c .before .before .before .before .before .before .before .before .before .before .before .before .before .before .before .before .before .before .before .before .args .watermark-marks .now) (c .before .before .before .before .before .before .before .before .before .before .before .before .before .before .before .before .before .before .before .before .args .watermarks .now) (c .before .before .before .before .before .before .before .before .before .before .before .before .before .before .before .before .before .before .before .before .args .watermarks .now) (c .before .before .before .before .before .before .before .before .before .before .before .before .before .before .before .before .before .before .before .before .args .watermarks .now) (c .before .before .before .before .before .before .before .before .before .before .before .before .before .before .before .before .before .before .before .before .args .watermarks .now) (c .before .before .before .before .before .before .before .before .before .before .before .before .before .before .before .before .before .before .before .before .args .watermarks .now) .l0Long)
 
--- src/drain.rt:38:1
 same-length : tie.Need-same-length
 same-length c = search needs
 
--- src/drain.rt:38:1
 same-length-2 : tie.Need-same-length-2
 same-length-2 c = search needs
 
--- src/drain.rt:38:1
 returns : tie.Need-returns
 returns c = λ l0Sizes runSizes ids jobMarks u tg jg F G. drain-commits (T (c .before .before .before .before .before .before .before .before .before .before .before .before .before .before .before .before .before .before .before .before .before) l0Sizes runSizes) (J (c .before .before .before .before .before .before .before .before .before .before .before .before .before .before .before .before .before .before .before .before .before) ids jobMarks) u tg jg F G (c .before .before .before .before .before .before .before .flag-tree .ensures (c .before .before .before .before .before .before .before .before .before .before .before .before .before .before .before .before .before .before .before .before .before .args .watermark-marks .now) (c .before .before .before .before .before .before .before .before .before .before .before .before .before .before .before .before .before .before .before .before .before .args .watermarks .now) l0Sizes runSizes ids jobMarks) (markOf (c .drain-mark .result)) (drained-mark (T (c .before .before .before .before .before .before .before .before .before .before .before .before .before .before .before .before .before .before .before .before .before) l0Sizes runSizes) (J (c .before .before .before .before .before .before .before .before .before .before .before .before .before .before .before .before .before .before .before .before .before) ids jobMarks) (c .before .before .before .before .before .before .before .before .before .before .before .before .before .before .before .before .before .before .before .before .before .args .job) (c .before .before .before .before .before .before .before .before .before .before .before .before .before .before .before .before .before .before .before .before .before .args .tree) (c .before .before .before .before .before .before .before .flag-tree .ensures (c .before .before .before .before .before .before .before .before .before .before .before .before .before .before .before .before .before .before .before .before .before .args .watermark-marks .now) (c .before .before .before .before .before .before .before .before .before .before .before .before .before .before .before .before .before .before .before .before .before .args .watermarks .now) l0Sizes runSizes ids jobMarks) (c .before .before .tree-rows .ensures) (markOf (c .drain-mark .result)) (λ x p w s. c .drain-mark .ensures (T (c .before .before .before .before .before .before .before .before .before .before .before .before .before .before .before .before .before .before .before .before .before) l0Sizes runSizes) x p refl refl refl w s))
 

@@ -1,4 +1,4 @@
--- `compactor_state::finish::find_finish` meets its contract. Assumes nothing.
+-- `find_finish` meets its contract: each return is one case of `finishCall` (Commits.antt).
 use mathlib.Core.Path.{refl, sym, _∙_}
 use Rattle.rules.specs.Tables.{Ulid}
 use Rattle.rules.specs.Lent.{LentTrees, LentJobs, lentTrees, lentJobs}
@@ -7,11 +7,6 @@ use Rattle.compactor_state.proofs.Commits.{tables-ok, finish-tables, fi
 use borrow.Author.Needs.{needs}
 use Rattle.compactor_state.proofs.finish.find_finish.Statement.{statement}
 use Rattle.compactor_state.proofs.finish.find_finish.Tie as tie
-use Rattle.compactor_state.proofs.finish.find_finish.Reads as reads
-use Rattle.compactor_state.proofs.finish.find_finish.Lts as lts
-use Rattle.compactor_state.proofs.finish.place_finish.Reads as place-finish-reads
-use Rattle.compactor_state.proofs.finishing.find_work.Reads as find-work-reads
-use Rattle.compactor_state.proofs.finishing.tables_refusal.Reads as tables-refusal-reads
 
 -- the tables as they are lent, and the id
 abbrev T : tie.Start → LentTrees
@@ -40,33 +35,26 @@ J c =
 abbrev U : tie.Start → Ulid
 U c = record { high = c .args .id-high; low = c .args .id-low }
 
--- src/finish.rt:132:9
 tables-refusal-requires : tie.Need-tables-refusal-requires
 tables-refusal-requires c κs = search needs
 
--- src/finish.rt:150:9
 returns : tie.Need-returns
 returns c = λ size. record { holds = finish-tables (T (c .before .before .before .before .before .before .before .before .before .before .before .before .before .before .before .before .before)) (J (c .before .before .before .before .before .before .before .before .before .before .before .before .before .before .before .before .before)) (U (c .before .before .before .before .before .before .before .before .before .before .before .before .before .before .before .before .before)) (record { id = c .before .before .before .before .before .before .before .before .before .before .before .before .before .before .before .before .before .args .output; size = size }) _ (c .before .tables-refusal .ensures) (c .if1 .taken) }
 
--- src/finish.rt:152:9
 find-work-requires : tie.Need-find-work-requires
 find-work-requires c κs =
     let g = tables-ok (T (c .before .before .before .before .before .before .before .before .before .before .before .before .before .before .before .before .before)) (J (c .before .before .before .before .before .before .before .before .before .before .before .before .before .before .before .before .before)) (sym (c .before .tables-refusal .ensures) ∙ c .if1 .left) in
     work-fit (T (c .before .before .before .before .before .before .before .before .before .before .before .before .before .before .before .before .before)) (J (c .before .before .before .before .before .before .before .before .before .before .before .before .before .before .before .before .before)) (g .0) (g .1)
 
--- src/finish.rt:164:23
 enum-known-work : tie.Need-enum-known-work
 enum-known-work c = search needs
 
--- src/finish.rt:165:23
 enum-known-work-2 : tie.Need-enum-known-work-2
 enum-known-work-2 c = search needs
 
--- src/finish.rt:166:23
 enum-known-work-3 : tie.Need-enum-known-work-3
 enum-known-work-3 c = search needs
 
--- src/finish.rt:166:38
 place-finish-requires : tie.Need-place-finish-requires
 place-finish-requires c κs =
     let g = tables-ok (T (c .before .before .before .before .before .before .before .before .before .before .before .before .before .before .before .before .before .before .before .before .before .before .before)) (J (c .before .before .before .before .before .before .before .before .before .before .before .before .before .before .before .before .before .before .before .before .before .before .before)) (sym (c .before .before .before .before .before .before .before .tables-refusal .ensures) ∙ c .before .before .before .before .before .before .if1 .left) in
@@ -74,28 +62,23 @@ place-finish-requires c κs =
     let f = work-is (T (c .before .before .before .before .before .before .before .before .before .before .before .before .before .before .before .before .before .before .before .before .before .before .before)) (J (c .before .before .before .before .before .before .before .before .before .before .before .before .before .before .before .before .before .before .before .before .before .before .before)) (U (c .before .before .before .before .before .before .before .before .before .before .before .before .before .before .before .before .before .before .before .before .before .before .before)) 0 (c .before .before .before .work3 .given .1) (c .before .before .before .before .before .find-work .ensures (T (c .before .before .before .before .before .before .before .before .before .before .before .before .before .before .before .before .before .before .before .before .before .before .before)) (J (c .before .before .before .before .before .before .before .before .before .before .before .before .before .before .before .before .before .before .before .before .before .before .before)) refl refl refl refl refl refl (jobs-good (J (c .before .before .before .before .before .before .before .before .before .before .before .before .before .before .before .before .before .before .before .before .before .before .before)) (g .1) .rules)) in
     (tree-room (T (c .before .before .before .before .before .before .before .before .before .before .before .before .before .before .before .before .before .before .before .before .before .before .before)) (J (c .before .before .before .before .before .before .before .before .before .before .before .before .before .before .before .before .before .before .before .before .before .before .before)) (g .0) (g .1) (f .1 .place), job-room (T (c .before .before .before .before .before .before .before .before .before .before .before .before .before .before .before .before .before .before .before .before .before .before .before)) (J (c .before .before .before .before .before .before .before .before .before .before .before .before .before .before .before .before .before .before .before .before .before .before .before)) (g .0) (g .1) (f .0 .place), c .before .before .before .before .before .before .before .before .before .before .before .before .before .before .before .before .before .before .before .before .before .before .before .pre, l .watermarkMarks, l .watermarks, f .0 .sources refl)
 
--- src/finish.rt:107:1
 returns-2 : tie.Need-returns-2
 returns-2 c = λ size.
     let g = tables-ok (T (c .before .before .before .before .before .before .before .before .before .before .before .before .before .before .before .before .before .before .before .before .before)) (J (c .before .before .before .before .before .before .before .before .before .before .before .before .before .before .before .before .before .before .before .before .before)) (sym (c .before .before .before .before .before .tables-refusal .ensures) ∙ c .before .before .before .before .if1 .left) in
     record { holds = finish-no-work (T (c .before .before .before .before .before .before .before .before .before .before .before .before .before .before .before .before .before .before .before .before .before)) (J (c .before .before .before .before .before .before .before .before .before .before .before .before .before .before .before .before .before .before .before .before .before)) (U (c .before .before .before .before .before .before .before .before .before .before .before .before .before .before .before .before .before .before .before .before .before)) (g .0) (g .1) (record { id = c .before .before .before .before .before .before .before .before .before .before .before .before .before .before .before .before .before .before .before .before .before .args .output; size = size }) _ (work-is (T (c .before .before .before .before .before .before .before .before .before .before .before .before .before .before .before .before .before .before .before .before .before)) (J (c .before .before .before .before .before .before .before .before .before .before .before .before .before .before .before .before .before .before .before .before .before)) (U (c .before .before .before .before .before .before .before .before .before .before .before .before .before .before .before .before .before .before .before .before .before)) 0 (c .before .work .given .1) (c .before .before .before .find-work .ensures (T (c .before .before .before .before .before .before .before .before .before .before .before .before .before .before .before .before .before .before .before .before .before)) (J (c .before .before .before .before .before .before .before .before .before .before .before .before .before .before .before .before .before .before .before .before .before)) refl refl refl refl refl refl (jobs-good (J (c .before .before .before .before .before .before .before .before .before .before .before .before .before .before .before .before .before .before .before .before .before)) (g .1) .rules))) }
 
--- src/finish.rt:107:1
 returns-3 : tie.Need-returns-3
 returns-3 c = λ size.
     let g = tables-ok (T (c .before .before .before .before .before .before .before .before .before .before .before .before .before .before .before .before .before .before .before .before .before)) (J (c .before .before .before .before .before .before .before .before .before .before .before .before .before .before .before .before .before .before .before .before .before)) (sym (c .before .before .before .before .before .tables-refusal .ensures) ∙ c .before .before .before .before .if1 .left) in
     let f = work-is (T (c .before .before .before .before .before .before .before .before .before .before .before .before .before .before .before .before .before .before .before .before .before)) (J (c .before .before .before .before .before .before .before .before .before .before .before .before .before .before .before .before .before .before .before .before .before)) (U (c .before .before .before .before .before .before .before .before .before .before .before .before .before .before .before .before .before .before .before .before .before)) 0 (c .before .work2 .given .1) (c .before .before .before .find-work .ensures (T (c .before .before .before .before .before .before .before .before .before .before .before .before .before .before .before .before .before .before .before .before .before)) (J (c .before .before .before .before .before .before .before .before .before .before .before .before .before .before .before .before .before .before .before .before .before)) refl refl refl refl refl refl (jobs-good (J (c .before .before .before .before .before .before .before .before .before .before .before .before .before .before .before .before .before .before .before .before .before)) (g .1) .rules)) in
     record { holds = finish-missing (T (c .before .before .before .before .before .before .before .before .before .before .before .before .before .before .before .before .before .before .before .before .before)) (J (c .before .before .before .before .before .before .before .before .before .before .before .before .before .before .before .before .before .before .before .before .before)) (U (c .before .before .before .before .before .before .before .before .before .before .before .before .before .before .before .before .before .before .before .before .before)) (g .0) (g .1) (f .0) (record { id = c .before .before .before .before .before .before .before .before .before .before .before .before .before .before .before .before .before .before .before .before .before .args .output; size = size }) (f .1) }
 
--- src/finish.rt:107:1
 same-length : tie.Need-same-length
 same-length c = search needs
 
--- src/finish.rt:107:1
 same-length-2 : tie.Need-same-length-2
 same-length-2 c = search needs
 
--- src/finish.rt:107:1
 returns-4 : tie.Need-returns-4
 returns-4 c = λ size.
     let g = tables-ok (T (c .before .before .before .before .before .before .before .before .before .before .before .before .before .before .before .before .before .before .before .before .before .before .before .before .before .before .before .before)) (J (c .before .before .before .before .before .before .before .before .before .before .before .before .before .before .before .before .before .before .before .before .before .before .before .before .before .before .before .before)) (sym (c .before .before .before .before .before .before .before .before .before .before .before .before .tables-refusal .ensures) ∙ c .before .before .before .before .before .before .before .before .before .before .before .if1 .left) in

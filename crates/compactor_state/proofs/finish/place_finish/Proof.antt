@@ -1,4 +1,4 @@
--- `compactor_state::finish::place_finish` meets its contract. Assumes nothing.
+-- `place_finish` meets its contract: where the output goes decides (`finish-refused`, `finish-commits`).
 use mathlib.Core.Path.{refl}
 use mathlib.Core.List.{List}
 use Prim.Native.Nat.{ℕ}
@@ -10,14 +10,6 @@ use Rattle.compactor_state.proofs.Commits.{finish-refused, finish-commi
 use borrow.Author.Needs.{needs}
 use Rattle.compactor_state.proofs.finish.place_finish.Statement.{statement}
 use Rattle.compactor_state.proofs.finish.place_finish.Tie as tie
-use Rattle.compactor_state.proofs.finish.place_finish.Reads as reads
-use Rattle.compactor_state.proofs.finish.place_finish.Lts as lts
-use Rattle.compactor_state.proofs.flagging.flag_tree.Reads as flag-tree-reads
-use Rattle.compactor_state.proofs.output.place_output.Reads as place-output-reads
-use Rattle.compactor_state.proofs.watermarks.finish_mark.Reads as finish-mark-reads
-use Rattle.rows.proofs.bounds.column_sum.Reads as column-sum-reads
-use Rattle.rows.proofs.read.job_rows.Reads as job-rows-reads
-use Rattle.rows.proofs.read.tree_rows.Reads as tree-rows-reads
 
 -- the tables with these slices beside those that are lent
 abbrev T : tie.Start → List ℕ → List ℕ → LentTrees
@@ -43,60 +35,46 @@ J c ids jobMarks =
     (c .args .source-runs .now)
     (c .args .source-views .now)
 
--- src/finish.rt:64:5
 flag-tree-requires : tie.Need-flag-tree-requires
 flag-tree-requires c κs = search needs
 
--- src/finish.rt:80:9
 tree-rows-requires : tie.Need-tree-rows-requires
 tree-rows-requires c κs = search needs
 
--- src/finish.rt:81:9
 job-rows-requires : tie.Need-job-rows-requires
 job-rows-requires c κs = search needs
 
--- src/finish.rt:82:9
 finish-mark-requires : tie.Need-finish-mark-requires
 finish-mark-requires c κs = finish-mark-fit (c .before .before .before .before .before .before .before .before .before .before .before .before .before .before .before .before .before .before .before .before .pre .0) (c .before .tree-rows .ensures) (c .before .before .before .before .before .before .before .before .before .before .before .before .before .before .before .before .before .before .before .before .pre .3) (c .before .before .before .before .before .before .before .before .before .before .before .before .before .before .before .before .before .before .before .before .pre .4) (c .before .before .before .before .before .before .before .before .before .before .before .before .before .before .before .before .before .before .before .before .pre .1) (c .job-rows .ensures) (c .before .before .before .before .before .before .before .before .before .before .before .before .before .before .before .before .before .before .before .before .pre .5)
 
--- src/finish.rt:93:9
 column-sum-requires : tie.Need-column-sum-requires
 column-sum-requires c κs = (omega arith, omega (arith, c .before .before .before .before .before .before .before .before .before .before .before .before .before .before .before .before .before .before .before .before .before .pre .0 .few))
 
--- src/finish.rt:94:9
 place-output-requires : tie.Need-place-output-requires
 place-output-requires c κs = output-fit (c .before .before .before .before .before .before .before .before .before .before .before .before .before .before .before .before .before .before .before .before .before .before .before .pre .0) (c .before .before .before .before .tree-rows .ensures) (c .before .column-sum .ensures) (c .before .before .before .before .before .before .before .before .before .flag-tree .ensures (c .before .before .before .before .before .before .before .before .before .before .before .before .before .before .before .before .before .before .before .before .before .before .before .args .watermark-marks .now) (c .before .before .before .before .before .before .before .before .before .before .before .before .before .before .before .before .before .before .before .before .before .before .before .args .watermarks .now) (c .before .before .before .before .before .before .before .before .before .before .before .before .before .before .before .before .before .before .before .before .before .before .before .args .watermarks .now) (c .before .before .before .before .before .before .before .before .before .before .before .before .before .before .before .before .before .before .before .before .before .before .before .args .watermarks .now) (c .before .before .before .before .before .before .before .before .before .before .before .before .before .before .before .before .before .before .before .before .before .before .before .args .watermarks .now) (c .before .before .before .before .before .before .before .before .before .before .before .before .before .before .before .before .before .before .before .before .before .before .before .args .watermarks .now) .runsLong)
 
--- src/finish.rt:96:24
 enum-known-place : tie.Need-enum-known-place
 enum-known-place c = search needs
 
--- src/finish.rt:97:19
 enum-known-place-2 : tie.Need-enum-known-place-2
 enum-known-place-2 c = search needs
 
--- src/finish.rt:43:1
 same-length : tie.Need-same-length
 same-length c = search needs
 
--- src/finish.rt:43:1
 same-length-2 : tie.Need-same-length-2
 same-length-2 c = search needs
 
--- src/finish.rt:43:1
 returns : tie.Need-returns
 unfolding runsUsed
 returns c = λ l0Sizes runSizes ids jobMarks u size tg jg F G. record { holds = finish-refused (T (c .before .before .before .before .before .before .before .before .before .before .before .before .before .before .before .before .before .before .before .before .before .before .before .before .before .before .before) l0Sizes runSizes) (J (c .before .before .before .before .before .before .before .before .before .before .before .before .before .before .before .before .before .before .before .before .before .before .before .before .before .before .before) ids jobMarks) u tg jg F (record { id = c .before .before .before .before .before .before .before .before .before .before .before .before .before .before .before .before .before .before .before .before .before .before .before .before .before .before .before .args .output; size = size }) G (c .before .before .before .before .before .before .before .before .before .before .before .before .before .flag-tree .ensures (c .before .before .before .before .before .before .before .before .before .before .before .before .before .before .before .before .before .before .before .before .before .before .before .before .before .before .before .args .watermark-marks .now) (c .before .before .before .before .before .before .before .before .before .before .before .before .before .before .before .before .before .before .before .before .before .before .before .before .before .before .before .args .watermarks .now) l0Sizes runSizes ids jobMarks) (c .before .before .before .before .before .before .before .before .tree-rows .ensures) (c .before .before .before .before .before .column-sum .ensures) (c .before .before .before .place-output .ensures) _ (c .before .place .given .1) }
 
--- src/finish.rt:43:1
 same-length-3 : tie.Need-same-length-3
 same-length-3 c = search needs
 
--- src/finish.rt:43:1
 same-length-4 : tie.Need-same-length-4
 same-length-4 c = search needs
 
--- src/finish.rt:43:1
 returns-2 : tie.Need-returns-2
 unfolding runsUsed
 returns-2 c = λ l0Sizes runSizes ids jobMarks u size tg jg F G. record { holds = finish-commits (T (c .before .before .before .before .before .before .before .before .before .before .before .before .before .before .before .before .before .before .before .before .before .before .before .before .before .before .before) l0Sizes runSizes) (J (c .before .before .before .before .before .before .before .before .before .before .before .before .before .before .before .before .before .before .before .before .before .before .before .before .before .before .before) ids jobMarks) u tg jg F (record { id = c .before .before .before .before .before .before .before .before .before .before .before .before .before .before .before .before .before .before .before .before .before .before .before .before .before .before .before .args .output; size = size }) G (c .before .before .before .before .before .before .before .before .before .before .before .before .before .flag-tree .ensures (c .before .before .before .before .before .before .before .before .before .before .before .before .before .before .before .before .before .before .before .before .before .before .before .before .before .before .before .args .watermark-marks .now) (c .before .before .before .before .before .before .before .before .before .before .before .before .before .before .before .before .before .before .before .before .before .before .before .before .before .before .before .args .watermarks .now) l0Sizes runSizes ids jobMarks) (c .before .before .before .before .before .before .before .before .tree-rows .ensures) (c .before .before .before .before .before .column-sum .ensures) (c .before .before .before .place-output .ensures) _ (c .before .place2 .given .1) (markOf (c .before .before .before .before .before .before .finish-mark .result)) (mark-of (J (c .before .before .before .before .before .before .before .before .before .before .before .before .before .before .before .before .before .before .before .before .before .before .before .before .before .before .before) ids jobMarks) (c .before .before .before .before .before .before .before .before .before .before .before .before .before .before .before .before .before .before .before .before .before .before .before .before .before .before .before .args .job) _ _ (c .before .before .before .before .before .before .before .job-rows .ensures) (c .before .before .before .before .before .before .before .before .before .before .before .before .before .before .before .before .before .before .before .before .before .before .before .before .before .before .before .pre .5) _ (markOf (c .before .before .before .before .before .before .finish-mark .result)) (λ m. c .before .before .before .before .before .before .finish-mark .ensures (T (c .before .before .before .before .before .before .before .before .before .before .before .before .before .before .before .before .before .before .before .before .before .before .before .before .before .before .before) l0Sizes runSizes) (treeAt (T (c .before .before .before .before .before .before .before .before .before .before .before .before .before .before .before .before .before .before .before .before .before .before .before .before .before .before .before) l0Sizes runSizes) (c .before .before .before .before .before .before .before .before .before .before .before .before .before .before .before .before .before .before .before .before .before .before .before .before .before .before .before .args .tree) (total (rowsFrom (l0Count (T (c .before .before .before .before .before .before .before .before .before .before .before .before .before .before .before .before .before .before .before .before .before .before .before .before .before .before .before) l0Sizes runSizes)) 0 (c .before .before .before .before .before .before .before .before .before .before .before .before .before .before .before .before .before .before .before .before .before .before .before .before .before .before .before .args .tree))) (total (rowsFrom (runCount (T (c .before .before .before .before .before .before .before .before .before .before .before .before .before .before .before .before .before .before .before .before .before .before .before .before .before .before .before) l0Sizes runSizes)) 0 (c .before .before .before .before .before .before .before .before .before .before .before .before .before .before .before .before .before .before .before .before .before .before .before .before .before .before .before .args .tree)))) (c .before .before .before .before .before .before .before .before .before .before .before .before .before .before .before .before .before .before .before .before .before .before .before .before .before .before .before .args .source-runs .now) m refl refl refl refl (own-rows (T (c .before .before .before .before .before .before .before .before .before .before .before .before .before .before .before .before .before .before .before .before .before .before .before .before .before .before .before) l0Sizes runSizes) (c .before .before .before .before .before .before .before .before .before .before .before .before .before .before .before .before .before .before .before .before .before .before .before .before .before .before .before .args .tree) (c .before .before .before .before .before .before .before .before .tree-rows .ensures)))) }

@@ -1,4 +1,4 @@
--- `compactor_state::finishing::flag_runs` meets its contract. Assumes nothing.
+-- `flag_runs` meets its contract: the invariant is that k flags are written (`Flagging`).
 use borrow.Author.Needs.{needs}
 use lib.ListN.{getD}
 use mathlib.Core.Path.{ap, _∙_}
@@ -8,10 +8,6 @@ use Rattle.compactor_state.specs.Finding.{namesIn, goneWith, flagOf}
 use Rattle.compactor_state.proofs.Finding.{Flagging, flags-start, flags-next, flags-end}
 use Rattle.compactor_state.proofs.finishing.flag_runs.Statement.{statement}
 use Rattle.compactor_state.proofs.finishing.flag_runs.Tie as tie
-use Rattle.compactor_state.proofs.finishing.flag_runs.Reads as reads
-use Rattle.compactor_state.proofs.finishing.flag_runs.Lts as lts
-use Rattle.compactor_state.proofs.finishing.flag.Reads as flag-reads
-use Rattle.compactor_state.proofs.finishing.run_goes.Reads as run-goes-reads
 
 abbrev Inv-loop : tie.InvT-loop
 Inv-loop run-ids first runs source-marks source-runs source-views from n drain destination kept₀ k₀ kept k = Flagging kept₀ (λ k. flagOf (among (sortedRun (getD run-ids k 0)) (goneWith drain destination (namesIn source-marks source-runs source-views from n)))) first runs kept k
@@ -19,51 +15,39 @@ Inv-loop run-ids first runs source-marks source-runs source-views from n drain d
 abbrev μ-loop : tie.MeasureT-loop
 μ-loop run-ids first runs source-marks source-runs source-views from n drain destination kept₀ k₀ kept k = runs - k
 
--- src/finishing.rt:242:5
 loop-holds : tie.Need-loop-holds Inv-loop μ-loop
 loop-holds c = flags-start (c .before .before .before .before .before .pre .2)
 
--- src/finishing.rt:243:17
 add-i : tie.Need-add-i Inv-loop μ-loop
 add-i c = search needs
 
--- src/finishing.rt:253:17
 mul-run-goes : tie.Need-mul-run-goes Inv-loop μ-loop
 mul-run-goes c = search needs
 
--- src/finishing.rt:253:17
 shared-slice-read-run-goes : tie.Need-shared-slice-read-run-goes Inv-loop μ-loop
 shared-slice-read-run-goes c = search needs
 
--- src/finishing.rt:245:13
 run-goes-requires : tie.Need-run-goes-requires Inv-loop μ-loop
 run-goes-requires c κs = search needs
 
--- src/finishing.rt:244:19
 flag-requires : tie.Need-flag-requires Inv-loop μ-loop
 flag-requires c κs = search needs
 
--- src/finishing.rt:244:9
 slice-write-kept : tie.Need-slice-write-kept Inv-loop μ-loop
 slice-write-kept c = search needs
 
--- src/finishing.rt:256:9
 add-k : tie.Need-add-k Inv-loop μ-loop
 add-k c = search needs
 
--- src/finishing.rt:242:5
 loop-less : tie.Need-loop-less Inv-loop μ-loop
 loop-less c = search needs
 
--- src/finishing.rt:242:5
 loop-again : tie.Need-loop-again Inv-loop μ-loop
 loop-again c = flags-next (c .before .before .before .before .loop .inv) (c .before .before .before .loop-test .taken) (c .flag .ensures ∙ ap flagOf (c .before .run-goes .ensures))
 
--- src/finishing.rt:225:1
 same-length : tie.Need-same-length Inv-loop μ-loop
 same-length c = search needs
 
--- src/finishing.rt:225:1
 returns : tie.Need-returns Inv-loop μ-loop
 returns c = flags-end (c .before .loop .inv) (c .loop-test .left)
 

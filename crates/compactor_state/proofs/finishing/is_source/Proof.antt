@@ -1,4 +1,4 @@
--- `compactor_state::finishing::is_source` meets its contract. Assumes nothing.
+-- `is_source` meets its contract: the invariant is that one of the entries left names it exactly if one of all does (`Left`).
 use borrow.Author.Needs.{needs}
 use mathlib.Core.Path.{sym, _∙_}
 use Prim.Native.Nat.{_+_, _-_}
@@ -9,9 +9,6 @@ use Rattle.rows.proofs.Scans.{Left, scan-next, scan-stops, scan-ends}
 use Rattle.compactor_state.proofs.Finding.{scan-within}
 use Rattle.compactor_state.proofs.finishing.is_source.Statement.{statement}
 use Rattle.compactor_state.proofs.finishing.is_source.Tie as tie
-use Rattle.compactor_state.proofs.finishing.is_source.Reads as reads
-use Rattle.compactor_state.proofs.finishing.is_source.Lts as lts
-use Rattle.rows.proofs.ids.same_source.Reads as same-source-reads
 
 abbrev Inv-loop : tie.InvT-loop
 Inv-loop source-marks source-runs source-views from n mark run high low end i₀ i = Left (any (λ y. sameId y (idOf (record { mark = mark; run = run; view = record { high = high; low = low } })))) (λ k. idOf (sourceAt source-marks source-runs source-views k)) (from + n) i (any (λ y. sameId y (idOf (record { mark = mark; run = run; view = record { high = high; low = low } }))) (rowsFrom (λ k. idOf (sourceAt source-marks source-runs source-views k)) from n))
@@ -19,77 +16,59 @@ Inv-loop source-marks source-runs source-views from n mark run high low end i₀
 abbrev μ-loop : tie.MeasureT-loop
 μ-loop source-marks source-runs source-views from n mark run high low end i₀ i = from + n - i
 
--- src/finishing.rt:136:15
 add-end : tie.Need-add-end Inv-loop μ-loop
 add-end c = search needs
 
--- src/finishing.rt:138:5
 loop-holds : tie.Need-loop-holds Inv-loop μ-loop
 loop-holds c = scan-within _ _
 
--- src/finishing.rt:140:13
 shared-slice-read-same-source : tie.Need-shared-slice-read-same-source Inv-loop μ-loop
 shared-slice-read-same-source c = search needs
 
--- src/finishing.rt:141:13
 mul-same-source : tie.Need-mul-same-source Inv-loop μ-loop
 mul-same-source c = search needs
 
--- src/finishing.rt:141:13
 shared-slice-read-same-source-2 : tie.Need-shared-slice-read-same-source-2 Inv-loop μ-loop
 shared-slice-read-same-source-2 c = search needs
 
--- src/finishing.rt:142:26
 mul-same-source-2 : tie.Need-mul-same-source-2 Inv-loop μ-loop
 mul-same-source-2 c = search needs
 
--- src/finishing.rt:142:13
 mul-same-source-3 : tie.Need-mul-same-source-3 Inv-loop μ-loop
 mul-same-source-3 c = search needs
 
--- src/finishing.rt:142:13
 shared-slice-read-same-source-3 : tie.Need-shared-slice-read-same-source-3 Inv-loop μ-loop
 shared-slice-read-same-source-3 c = search needs
 
--- src/finishing.rt:143:26
 mul-same-source-4 : tie.Need-mul-same-source-4 Inv-loop μ-loop
 mul-same-source-4 c = search needs
 
--- src/finishing.rt:143:26
 add-same-source : tie.Need-add-same-source Inv-loop μ-loop
 add-same-source c = search needs
 
--- src/finishing.rt:143:13
 mul-same-source-5 : tie.Need-mul-same-source-5 Inv-loop μ-loop
 mul-same-source-5 c = search needs
 
--- src/finishing.rt:143:13
 shared-slice-read-same-source-4 : tie.Need-shared-slice-read-same-source-4 Inv-loop μ-loop
 shared-slice-read-same-source-4 c = search needs
 
--- src/finishing.rt:139:12
 same-source-requires : tie.Need-same-source-requires Inv-loop μ-loop
 same-source-requires c κs = search needs
 
--- src/finishing.rt:149:13
 returns : tie.Need-returns Inv-loop μ-loop
 unfolding any
 returns c = scan-stops (c .before .before .before .before .before .before .before .loop .inv) (c .before .before .before .before .before .before .loop-test .taken) (rw (sym (c .before .same-source .ensures) ∙ c .if1 .taken))
 
--- src/finishing.rt:151:9
 add-i : tie.Need-add-i Inv-loop μ-loop
 add-i c = search needs
 
--- src/finishing.rt:138:5
 loop-less : tie.Need-loop-less Inv-loop μ-loop
 loop-less c = search needs
 
--- src/finishing.rt:138:5
 loop-again : tie.Need-loop-again Inv-loop μ-loop
 unfolding any
 loop-again c = scan-next (c .before .before .before .before .before .before .before .loop .inv) (c .before .before .before .before .before .before .loop-test .taken) (rw (sym (c .before .same-source .ensures) ∙ c .if1 .left))
 
--- src/finishing.rt:122:1
 returns-2 : tie.Need-returns-2 Inv-loop μ-loop
 unfolding any
 returns-2 c = scan-ends (c .before .loop .inv) (c .loop-test .left)

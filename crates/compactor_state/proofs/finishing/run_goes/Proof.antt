@@ -1,26 +1,19 @@
--- `compactor_state::finishing::run_goes` meets its contract. Assumes nothing.
+-- `run_goes` meets its contract: a run goes as a source, or as the destination of a tiered job.
 use mathlib.Core.Path.{sym, _∙_}
 use Rattle.compactor_state.proofs.Finding.{goes-source, goes-drain, goes-tiered}
 use borrow.Author.Needs.{needs}
 use Rattle.compactor_state.proofs.finishing.run_goes.Statement.{statement}
 use Rattle.compactor_state.proofs.finishing.run_goes.Tie as tie
-use Rattle.compactor_state.proofs.finishing.run_goes.Reads as reads
-use Rattle.compactor_state.proofs.finishing.run_goes.Lts as lts
-use Rattle.compactor_state.proofs.finishing.is_source.Reads as is-source-reads
 
--- src/finishing.rt:170:8
 is-source-requires : tie.Need-is-source-requires
 is-source-requires c κs = search needs
 
--- src/finishing.rt:171:9
 returns : tie.Need-returns
 returns c = goes-source (c .before .before .before .before .before .args .run) (c .before .before .before .before .before .args .drain) (c .before .before .before .before .before .args .destination) _ (sym (c .before .is-source .ensures) ∙ c .if1 .taken)
 
--- src/finishing.rt:174:9
 returns-2 : tie.Need-returns-2
 returns-2 c = goes-drain (c .before .before .before .before .before .before .args .run) (c .before .before .before .before .before .before .args .drain) (c .before .before .before .before .before .before .args .destination) _ (sym (c .before .before .is-source .ensures) ∙ c .before .if1 .left) (c .if2 .taken)
 
--- src/finishing.rt:157:1
 returns-3 : tie.Need-returns-3
 returns-3 c = goes-tiered (c .before .before .before .before .before .before .args .run) (c .before .before .before .before .before .before .args .drain) (c .before .before .before .before .before .before .args .destination) _ (sym (c .before .before .is-source .ensures) ∙ c .before .if1 .left) (c .if2 .left)
 

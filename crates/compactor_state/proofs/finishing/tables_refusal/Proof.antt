@@ -1,16 +1,10 @@
--- `compactor_state::finishing::tables_refusal` meets its contract. Assumes nothing.
+-- `tables_refusal` meets its contract: each return settles one part of `tablesRefusal`, in its order.
 use mathlib.Core.Path.{refl, sym, _∙_}
 use Rattle.rules.specs.Lent.{LentTrees, LentJobs, lentTrees, lentJobs}
 use Rattle.compactor_state.proofs.Finding.{trees-out, jobs-out, trees-bad, jobs-bad, tables-good}
 use borrow.Author.Needs.{needs}
 use Rattle.compactor_state.proofs.finishing.tables_refusal.Statement.{statement}
 use Rattle.compactor_state.proofs.finishing.tables_refusal.Tie as tie
-use Rattle.compactor_state.proofs.finishing.tables_refusal.Reads as reads
-use Rattle.compactor_state.proofs.finishing.tables_refusal.Lts as lts
-use Rattle.rows.proofs.bounds.jobs_outside.Reads as jobs-outside-reads
-use Rattle.rows.proofs.bounds.trees_outside.Reads as trees-outside-reads
-use Rattle.rows.proofs.jobs.jobs_refusal.Reads as jobs-refusal-reads
-use Rattle.rows.proofs.trees.trees_refusal.Reads as trees-refusal-reads
 
 -- the tables as they are lent
 abbrev T : tie.Start → LentTrees
@@ -36,39 +30,30 @@ J c =
     (c .args .source-runs .now)
     (c .args .source-views .now)
 
--- src/finishing.rt:48:8
 trees-outside-requires : tie.Need-trees-outside-requires
 trees-outside-requires c κs = search needs
 
--- src/finishing.rt:49:9
 returns : tie.Need-returns
 returns c = trees-out (T (c .before .before .before .before .before .before .before .before .before .before .before .before .before .before .before)) (J (c .before .before .before .before .before .before .before .before .before .before .before .before .before .before .before)) (sym (c .before .trees-outside .ensures (T (c .before .before .before .before .before .before .before .before .before .before .before .before .before .before .before)) refl refl) ∙ c .if1 .taken)
 
--- src/finishing.rt:51:8
 jobs-outside-requires : tie.Need-jobs-outside-requires
 jobs-outside-requires c κs = search needs
 
--- src/finishing.rt:52:9
 returns-2 : tie.Need-returns-2
 returns-2 c = jobs-out (T (c .before .before .before .before .before .before .before .before .before .before .before .before .before .before .before .before .before)) (J (c .before .before .before .before .before .before .before .before .before .before .before .before .before .before .before .before .before)) (sym (c .before .before .before .trees-outside .ensures (T (c .before .before .before .before .before .before .before .before .before .before .before .before .before .before .before .before .before)) refl refl) ∙ c .before .before .if1 .left) (sym (c .before .jobs-outside .ensures (J (c .before .before .before .before .before .before .before .before .before .before .before .before .before .before .before .before .before)) refl refl) ∙ c .if2 .taken)
 
--- src/finishing.rt:54:8
 trees-refusal-requires : tie.Need-trees-refusal-requires
 trees-refusal-requires c κs = search needs
 
--- src/finishing.rt:64:9
 returns-3 : tie.Need-returns-3
 returns-3 c = trees-bad (T (c .before .before .before .before .before .before .before .before .before .before .before .before .before .before .before .before .before .before .before)) (J (c .before .before .before .before .before .before .before .before .before .before .before .before .before .before .before .before .before .before .before)) (sym (c .before .before .before .before .before .trees-outside .ensures (T (c .before .before .before .before .before .before .before .before .before .before .before .before .before .before .before .before .before .before .before)) refl refl) ∙ c .before .before .before .before .if1 .left) (sym (c .before .before .before .jobs-outside .ensures (J (c .before .before .before .before .before .before .before .before .before .before .before .before .before .before .before .before .before .before .before)) refl refl) ∙ c .before .before .if2 .left) _ (c .before .trees-refusal .ensures) (c .if3 .taken)
 
--- src/finishing.rt:66:8
 jobs-refusal-requires : tie.Need-jobs-refusal-requires
 jobs-refusal-requires c κs = search needs
 
--- src/finishing.rt:75:9
 returns-4 : tie.Need-returns-4
 returns-4 c = jobs-bad (T (c .before .before .before .before .before .before .before .before .before .before .before .before .before .before .before .before .before .before .before .before .before)) (J (c .before .before .before .before .before .before .before .before .before .before .before .before .before .before .before .before .before .before .before .before .before)) (sym (c .before .before .before .before .before .jobs-outside .ensures (J (c .before .before .before .before .before .before .before .before .before .before .before .before .before .before .before .before .before .before .before .before .before)) refl refl) ∙ c .before .before .before .before .if2 .left) (sym (c .before .before .before .trees-refusal .ensures) ∙ c .before .before .if3 .left) _ (c .before .jobs-refusal .ensures) (c .if4 .taken)
 
--- src/finishing.rt:29:1
 returns-5 : tie.Need-returns-5
 returns-5 c = tables-good (T (c .before .before .before .before .before .before .before .before .before .before .before .before .before .before .before .before .before .before .before .before .before)) (J (c .before .before .before .before .before .before .before .before .before .before .before .before .before .before .before .before .before .before .before .before .before)) (sym (c .before .before .before .trees-refusal .ensures) ∙ c .before .before .if3 .left) (sym (c .before .jobs-refusal .ensures) ∙ c .if4 .left)
 

@@ -1,57 +1,40 @@
--- `compactor_state::flagging::flag_tree` meets its contract. Assumes nothing.
+-- `flag_tree` meets its contract: the flags that the two loops leave say of each row whether it stays (`flags-made`).
 use Rattle.rules.specs.Lent.{lentTrees, lentJobs}
 use Rattle.compactor_state.proofs.Pasting.{flags-made, sources-fit, rows-fit, runs-fit}
 use borrow.Author.Needs.{needs}
 use Rattle.compactor_state.proofs.flagging.flag_tree.Statement.{statement}
 use Rattle.compactor_state.proofs.flagging.flag_tree.Tie as tie
-use Rattle.compactor_state.proofs.flagging.flag_tree.Reads as reads
-use Rattle.compactor_state.proofs.flagging.flag_tree.Lts as lts
-use Rattle.compactor_state.proofs.finishing.flag_rows.Reads as flag-rows-reads
-use Rattle.compactor_state.proofs.finishing.flag_runs.Reads as flag-runs-reads
-use Rattle.rows.proofs.read.job_rows.Reads as job-rows-reads
-use Rattle.rows.proofs.read.tree_rows.Reads as tree-rows-reads
 
--- src/flagging.rt:31:9
 tree-rows-requires : tie.Need-tree-rows-requires
 tree-rows-requires c κs = search needs
 
--- src/flagging.rt:32:9
 job-rows-requires : tie.Need-job-rows-requires
 job-rows-requires c κs = search needs
 
--- src/flagging.rt:33:5
 flag-rows-requires : tie.Need-flag-rows-requires
 flag-rows-requires c κs = (sources-fit (c .before .before .before .before .before .before .before .before .before .before .before .before .pre .1) (c .before .job-rows .ensures), rows-fit (c .before .before .before .before .before .before .before .before .before .before .before .before .pre .0) (c .before .before .tree-rows .ensures) (c .before .before .before .before .before .before .before .before .before .before .before .before .pre .2) .0, rows-fit (c .before .before .before .before .before .before .before .before .before .before .before .before .pre .0) (c .before .before .tree-rows .ensures) (c .before .before .before .before .before .before .before .before .before .before .before .before .pre .2) .1)
 
--- src/flagging.rt:54:19
 mul-flag-runs : tie.Need-mul-flag-runs
 mul-flag-runs c = search needs
 
--- src/flagging.rt:54:19
 add-flag-runs : tie.Need-add-flag-runs
 add-flag-runs c = search needs
 
--- src/flagging.rt:54:9
 mul-flag-runs-2 : tie.Need-mul-flag-runs-2
 mul-flag-runs-2 c = search needs
 
--- src/flagging.rt:54:9
 shared-slice-read-flag-runs : tie.Need-shared-slice-read-flag-runs
 shared-slice-read-flag-runs c = search needs
 
--- src/flagging.rt:44:5
 flag-runs-requires : tie.Need-flag-runs-requires
 flag-runs-requires c κs = (sources-fit (c .before .before .before .before .before .before .before .before .before .before .before .before .before .before .before .before .before .pre .1) (c .before .before .before .before .before .before .job-rows .ensures), runs-fit (c .before .before .before .before .before .before .before .before .before .before .before .before .before .before .before .before .before .pre .0) (c .before .before .before .before .before .before .before .tree-rows .ensures) (c .before .before .before .before .before .before .before .before .before .before .before .before .before .before .before .before .before .pre .2) .0, runs-fit (c .before .before .before .before .before .before .before .before .before .before .before .before .before .before .before .before .before .pre .0) (c .before .before .before .before .before .before .before .tree-rows .ensures) (c .before .before .before .before .before .before .before .before .before .before .before .before .before .before .before .before .before .pre .2) .1)
 
--- src/flagging.rt:12:1
 same-length : tie.Need-same-length
 same-length c = search needs
 
--- src/flagging.rt:12:1
 same-length-2 : tie.Need-same-length-2
 same-length-2 c = search needs
 
--- src/flagging.rt:12:1
 returns : tie.Need-returns
 returns c = λ marks words l0Sizes runSizes ids jobMarks. flags-made (lentTrees (c .before .before .before .before .before .before .before .before .before .before .before .before .before .before .before .before .before .before .before .before .args .tree-count) (c .before .before .before .before .before .before .before .before .before .before .before .before .before .before .before .before .before .before .before .before .args .trees .now) marks words (c .before .before .before .before .before .before .before .before .before .before .before .before .before .before .before .before .before .before .before .before .args .l0-ids .now) l0Sizes (c .before .before .before .before .before .before .before .before .before .before .before .before .before .before .before .before .before .before .before .before .args .run-ids .now) runSizes) (lentJobs (c .before .before .before .before .before .before .before .before .before .before .before .before .before .before .before .before .before .before .before .before .args .job-count) ids jobMarks (c .before .before .before .before .before .before .before .before .before .before .before .before .before .before .before .before .before .before .before .before .args .job-specs .now) (c .before .before .before .before .before .before .before .before .before .before .before .before .before .before .before .before .before .before .before .before .args .source-marks .now) (c .before .before .before .before .before .before .before .before .before .before .before .before .before .before .before .before .before .before .before .before .args .source-runs .now) (c .before .before .before .before .before .before .before .before .before .before .before .before .before .before .before .before .before .before .before .before .args .source-views .now)) (c .before .before .before .before .before .before .before .before .before .before .before .before .before .before .before .before .before .before .before .before .args .drain) (c .before .before .before .before .before .before .before .before .before .before .before .before .before .before .before .before .before .before .before .before .args .job) (c .before .before .before .before .before .before .before .before .before .before .before .before .before .before .before .before .before .before .before .before .args .tree) (c .before .before .before .before .before .before .before .before .before .before .before .before .before .before .before .before .before .before .before .before .pre .0) (c .before .before .before .before .before .before .before .before .before .before .before .before .before .before .before .before .before .before .before .before .pre .2) (c .before .before .before .before .before .before .before .before .before .before .tree-rows .ensures) (c .before .before .before .before .before .before .before .before .before .job-rows .ensures) (c .before .before .before .before .before .before .before .flag-rows .ensures) (c .before .before .flag-runs .ensures)
 

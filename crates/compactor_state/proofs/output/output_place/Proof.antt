@@ -1,4 +1,4 @@
--- `compactor_state::output::output_place` meets its contract. Assumes nothing.
+-- `output_place` meets its contract: the invariant is that every run so far is above the output (`Sought`).
 use borrow.Author.Needs.{needs}
 use borrow.Author.Tests.{le-leb, lt-leb}
 use mathlib.Core.Bool.{not}
@@ -11,8 +11,6 @@ use Rattle.rows.proofs.Finds.{Sought, seek-on, seek-found, seek-ends}
 use Rattle.compactor_state.proofs.Finding.{seek-within}
 use Rattle.compactor_state.proofs.output.output_place.Statement.{statement}
 use Rattle.compactor_state.proofs.output.output_place.Tie as tie
-use Rattle.compactor_state.proofs.output.output_place.Reads as reads
-use Rattle.compactor_state.proofs.output.output_place.Lts as lts
 
 abbrev Inv-loop : tie.InvT-loop
 Inv-loop run-ids first runs output end i₀ i = Sought (λ x. leb x output) (λ k. getD run-ids k 0) (first + runs) first i (leading (λ x. not (leb x output)) (rowsFrom (λ k. getD run-ids k 0) first runs))
@@ -20,47 +18,36 @@ Inv-loop run-ids first runs output end i₀ i = Sought (λ x. leb x output) (λ 
 abbrev μ-loop : tie.MeasureT-loop
 μ-loop run-ids first runs output end i₀ i = first + runs - i
 
--- src/output.rt:33:15
 add-end : tie.Need-add-end Inv-loop μ-loop
 add-end c = search needs
 
--- src/output.rt:35:5
 loop-holds : tie.Need-loop-holds Inv-loop μ-loop
 loop-holds c = seek-within _ _
 
--- src/output.rt:36:12
 mul-if1 : tie.Need-mul-if1 Inv-loop μ-loop
 mul-if1 c = search needs
 
--- src/output.rt:36:12
 shared-slice-read-if1 : tie.Need-shared-slice-read-if1 Inv-loop μ-loop
 shared-slice-read-if1 c = search needs
 
--- src/output.rt:37:20
 sub-result : tie.Need-sub-result Inv-loop μ-loop
 sub-result c = search needs
 
--- src/output.rt:37:13
 returns : tie.Need-returns Inv-loop μ-loop
 returns c = seek-found (c .before .before .before .loop .inv) (c .before .before .loop-test .taken) (le-leb _ _ (c .if1 .taken))
 
--- src/output.rt:39:9
 add-i : tie.Need-add-i Inv-loop μ-loop
 add-i c = search needs
 
--- src/output.rt:35:5
 loop-less : tie.Need-loop-less Inv-loop μ-loop
 loop-less c = search needs
 
--- src/output.rt:35:5
 loop-again : tie.Need-loop-again Inv-loop μ-loop
 loop-again c = seek-on (c .before .before .before .loop .inv) (c .before .before .loop-test .taken) (lt-leb _ _ (c .if1 .left))
 
--- src/output.rt:41:5
 sub-result-2 : tie.Need-sub-result-2 Inv-loop μ-loop
 sub-result-2 c = search needs
 
--- src/output.rt:29:1
 returns-2 : tie.Need-returns-2 Inv-loop μ-loop
 returns-2 c = seek-ends (c .before .loop .inv) (c .loop-test .left)
 

@@ -1,4 +1,4 @@
--- `compactor_state::watermarks::old_mark` meets its contract. Assumes nothing.
+-- `old_mark` meets its contract: these are the six numbers of tree i's watermark.
 use mathlib.Core.Path.{refl, ap}
 use Prim.Native.Nat.{ℕ}
 use native.Mathlib.Omega.{arith}
@@ -7,90 +7,67 @@ use Rattle.rules.proofs.Records.{ulid-eq, watermark-eq}
 use borrow.Author.Needs.{needs}
 use Rattle.compactor_state.proofs.watermarks.old_mark.Statement.{statement}
 use Rattle.compactor_state.proofs.watermarks.old_mark.Tie as tie
-use Rattle.compactor_state.proofs.watermarks.old_mark.Reads as reads
-use Rattle.compactor_state.proofs.watermarks.old_mark.Lts as lts
 
--- src/watermarks.rt:33:36
 mul-t4 : tie.Need-mul-t4
 mul-t4 c = search needs
 
--- src/watermarks.rt:33:20
 shared-slice-read-t6 : tie.Need-shared-slice-read-t6
 shared-slice-read-t6 c = search needs
 
--- src/watermarks.rt:34:35
 mul-t7 : tie.Need-mul-t7
 mul-t7 c = search needs
 
--- src/watermarks.rt:34:35
 add-t8 : tie.Need-add-t8
 add-t8 c = search needs
 
--- src/watermarks.rt:34:19
 shared-slice-read-t10 : tie.Need-shared-slice-read-t10
 shared-slice-read-t10 c = search needs
 
--- src/watermarks.rt:35:31
 mul-t11 : tie.Need-mul-t11
 mul-t11 c = search needs
 
--- src/watermarks.rt:35:20
 mul-t12 : tie.Need-mul-t12
 mul-t12 c = search needs
 
--- src/watermarks.rt:35:20
 shared-slice-read-t14 : tie.Need-shared-slice-read-t14
 shared-slice-read-t14 c = search needs
 
--- src/watermarks.rt:36:30
 mul-t15 : tie.Need-mul-t15
 mul-t15 c = search needs
 
--- src/watermarks.rt:36:30
 add-t16 : tie.Need-add-t16
 add-t16 c = search needs
 
--- src/watermarks.rt:36:19
 mul-t17 : tie.Need-mul-t17
 mul-t17 c = search needs
 
--- src/watermarks.rt:36:19
 shared-slice-read-t19 : tie.Need-shared-slice-read-t19
 shared-slice-read-t19 c = search needs
 
--- src/watermarks.rt:37:30
 mul-t20 : tie.Need-mul-t20
 mul-t20 c = search needs
 
--- src/watermarks.rt:37:30
 add-t21 : tie.Need-add-t21
 add-t21 c = search needs
 
--- src/watermarks.rt:37:19
 mul-t22 : tie.Need-mul-t22
 mul-t22 c = search needs
 
--- src/watermarks.rt:37:19
 shared-slice-read-t24 : tie.Need-shared-slice-read-t24
 shared-slice-read-t24 c = search needs
 
--- src/watermarks.rt:38:29
 mul-t25 : tie.Need-mul-t25
 mul-t25 c = search needs
 
--- src/watermarks.rt:38:29
 add-t26 : tie.Need-add-t26
 add-t26 c = search needs
 
--- src/watermarks.rt:38:18
 mul-t27 : tie.Need-mul-t27
 mul-t27 c = search needs
 
--- src/watermarks.rt:38:18
 shared-slice-read-t29 : tie.Need-shared-slice-read-t29
 shared-slice-read-t29 c = search needs
 
--- src/watermarks.rt:28:1
 returns : tie.Need-returns
 returns c = λ t a b. rw (a, b) (watermark-eq refl refl refl (ulid-eq refl (ap (λ (n : ℕ). getD (c .before .before .before .before .before .before .args .watermarks .now) n 0) (omega arith))))
 
