@@ -1,6 +1,2 @@
 -- What the contracts of the job rules cite beside document 01's definitions.
 pub mod Clash
-pub mod Finding
-pub mod Placing
-pub mod Flagging
-pub mod Finishes
