@@ -13,6 +13,7 @@ pub mod Passes
 pub mod Bounds
 pub mod Ulids
 pub mod Inserting
+pub mod Finishing
 pub mod Digits
 pub mod Nearest
 pub mod Rounding

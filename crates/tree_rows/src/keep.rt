@@ -15,7 +15,7 @@ use rows::r64;
 use rows::read::tree_rows;
 
 // How many rows the flags keep.
-fn count_kept(flags: &[u8]) -> u32
+pub fn count_kept(flags: &[u8]) -> u32
     requires { ⌜ length (now flags) ≤ 512 ⌝ }
     ensures { λ r. ⌜ r ≡ length (keep marked (now (flags .entry))) ⌝ }
 {

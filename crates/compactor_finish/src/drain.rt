@@ -1,0 +1,242 @@
+// Drain: slatedb's finish_drain, over the lent tables.
+ghost use mathlib.Core.Path.{_≡_};
+ghost use mathlib.Core.List.{List};
+ghost use Prim.Native.Nat.{ℕ, _*_};
+ghost use lib.ListN.{length, getD};
+ghost use Rattle.rules.specs.Tables.{Ulid};
+ghost use Rattle.rules.specs.Lent.{lentTrees, lentJobs};
+ghost use Rattle.rules.specs.Bounds.{treesRefusal, jobsRefusal};
+ghost use Rattle.rules.specs.Calls.{drainCall};
+ghost use Rattle.compactor_finish.specs.Finding.{JobFound, TreeFound};
+ghost use Rattle.compactor_finish.specs.Flagging.{TreeRoom, JobRoom, Unflagged};
+ghost use Rattle.compactor_finish.specs.Placing.{markOf};
+ghost use Rattle.compactor_finish.specs.Finishes.{DrainFound, Drains, Leaves};
+use crate::finishing::Work;
+use crate::finishing::find_work;
+use crate::finishing::set_status;
+use crate::finishing::tables_refusal;
+use crate::flagging::flag_tree;
+use crate::watermarks::Mark;
+use crate::watermarks::drain_mark;
+use rows::read::tree_rows;
+use rules::FinishAnswer;
+use tree_rows::keep::keep_tree_rows;
+use tree_rows::watermark::set_watermark;
+
+// What drain found: a refusal's number; the job's row, where its segment is missing; or all that the change needs.
+pub enum Outcome {
+    Refused(u32),
+    Missing(usize),
+    Commit { job: usize, tree: usize, mark: Mark },
+}
+
+// The watermark after the drain of a job and its tree. The flags of the rows that go come out in `l0_kept` and `runs_kept`.
+fn mark_drain(
+    tree_count: usize,
+    trees: &[u32],
+    watermark_marks: &[u8],
+    watermarks: &[u64],
+    l0_ids: &[u64],
+    run_ids: &[u32],
+    job_count: usize,
+    job_specs: &[u32],
+    source_marks: &[u8],
+    source_runs: &[u32],
+    source_views: &[u64],
+    job: usize,
+    tree: usize,
+    l0_kept: &mut [u8],
+    runs_kept: &mut [u8],
+) -> Mark
+    requires { ⌜ TreeRoom «tree_count» (now trees) (now «l0_ids») (now «run_ids») tree × JobRoom «job_count» (now «job_specs») (now «source_marks») (now «source_runs») (now «source_views») job × Unflagged (now «l0_kept») (now «runs_kept») × (length (now «watermark_marks») ≡ 64) × (length (now watermarks) ≡ 128) ⌝ }
+    ensures { λ r. ⌜ ((l0Sizes runSizes ids jobMarks : List ℕ) (u : Ulid) → treesRefusal (lentTrees «tree_count» (now (trees .entry)) (now («watermark_marks» .entry)) (now (watermarks .entry)) (now («l0_ids» .entry)) l0Sizes (now («run_ids» .entry)) runSizes) ≡ 0 → jobsRefusal (lentJobs «job_count» ids jobMarks (now («job_specs» .entry)) (now («source_marks» .entry)) (now («source_runs» .entry)) (now («source_views» .entry))) ≡ 0 → JobFound (lentJobs «job_count» ids jobMarks (now («job_specs» .entry)) (now («source_marks» .entry)) (now («source_runs» .entry)) (now («source_views» .entry))) u 1 job → TreeFound (lentTrees «tree_count» (now (trees .entry)) (now («watermark_marks» .entry)) (now (watermarks .entry)) (now («l0_ids» .entry)) l0Sizes (now («run_ids» .entry)) runSizes) (getD (now («job_specs» .entry)) (3 * job) 0) tree → Drains (drainCall (lentTrees «tree_count» (now (trees .entry)) (now («watermark_marks» .entry)) (now (watermarks .entry)) (now («l0_ids» .entry)) l0Sizes (now («run_ids» .entry)) runSizes) (lentJobs «job_count» ids jobMarks (now («job_specs» .entry)) (now («source_marks» .entry)) (now («source_runs» .entry)) (now («source_views» .entry))) u) (lentTrees «tree_count» (now (trees .entry)) (now («watermark_marks» .entry)) (now (watermarks .entry)) (now («l0_ids» .entry)) l0Sizes (now («run_ids» .entry)) runSizes) (lentJobs «job_count» ids jobMarks (now («job_specs» .entry)) (now («source_marks» .entry)) (now («source_runs» .entry)) (now («source_views» .entry))) job tree (markOf r) (now («l0_kept» .exit)) (now («runs_kept» .exit))) ⌝ }
+{
+    flag_tree(
+        tree_count,
+        trees,
+        l0_ids,
+        run_ids,
+        job_count,
+        job_specs,
+        source_marks,
+        source_runs,
+        source_views,
+        job,
+        tree,
+        1,
+        l0_kept,
+        runs_kept,
+    );
+    let rows = tree_rows(trees, tree_count, tree);
+    drain_mark(
+        watermark_marks,
+        watermarks,
+        tree,
+        l0_ids,
+        rows.first_row,
+        rows.rows,
+        l0_kept,
+    )
+}
+
+// "Drain: 11, 12, missing segment.", behind 1 and 2 of both tables.
+fn find_drain(
+    tree_count: usize,
+    trees: &[u32],
+    watermark_marks: &[u8],
+    watermarks: &[u64],
+    l0_ids: &[u64],
+    l0_sizes: &[u64],
+    run_ids: &[u32],
+    run_sizes: &[u64],
+    job_count: usize,
+    job_ids: &[u64],
+    job_marks: &[u8],
+    job_specs: &[u32],
+    source_marks: &[u8],
+    source_runs: &[u32],
+    source_views: &[u64],
+    id_high: u64,
+    id_low: u64,
+    l0_kept: &mut [u8],
+    runs_kept: &mut [u8],
+) -> Outcome
+    requires { ⌜ Unflagged (now «l0_kept») (now «runs_kept») ⌝ }
+    ensures { λ r. ⌜ DrainFound (lentTrees «tree_count» (now (trees .entry)) (now («watermark_marks» .entry)) (now (watermarks .entry)) (now («l0_ids» .entry)) (now («l0_sizes» .entry)) (now («run_ids» .entry)) (now («run_sizes» .entry))) (lentJobs «job_count» (now («job_ids» .entry)) (now («job_marks» .entry)) (now («job_specs» .entry)) (now («source_marks» .entry)) (now («source_runs» .entry)) (now («source_views» .entry))) (record { high = «id_high»; low = «id_low» }) (now («l0_kept» .exit)) (now («runs_kept» .exit)) r ⌝ }
+{
+    let refusal = tables_refusal(
+        tree_count,
+        trees,
+        watermark_marks,
+        watermarks,
+        l0_ids,
+        l0_sizes,
+        run_ids,
+        run_sizes,
+        job_count,
+        job_ids,
+        job_marks,
+        job_specs,
+        source_marks,
+        source_runs,
+        source_views,
+    );
+    if refusal != 0 {
+        return Outcome::Refused(refusal);
+    }
+    let work = find_work(
+        tree_count,
+        trees,
+        job_count,
+        job_ids,
+        job_marks,
+        job_specs,
+        id_high,
+        id_low,
+        1,
+    );
+    match work {
+        Work::Refused(n) => Outcome::Refused(n),
+        Work::Missing(job) => Outcome::Missing(job),
+        Work::Found { job, tree } => {
+            let mark = mark_drain(
+                tree_count,
+                trees,
+                watermark_marks,
+                watermarks,
+                l0_ids,
+                run_ids,
+                job_count,
+                job_specs,
+                source_marks,
+                source_runs,
+                source_views,
+                job,
+                tree,
+                l0_kept,
+                runs_kept,
+            );
+            Outcome::Commit { job, tree, mark }
+        }
+    }
+}
+
+// "Drain: the watermark moves to the first L0 row in table order that is a source, if any; source rows go; status 4."
+pub fn drain(
+    tree_count: usize,
+    trees: &mut [u32],
+    watermark_marks: &mut [u8],
+    watermarks: &mut [u64],
+    l0_ids: &mut [u64],
+    l0_sizes: &mut [u64],
+    run_ids: &mut [u32],
+    run_sizes: &mut [u64],
+    job_count: usize,
+    job_ids: &[u64],
+    job_marks: &mut [u8],
+    job_specs: &[u32],
+    source_marks: &[u8],
+    source_runs: &[u32],
+    source_views: &[u64],
+    id_high: u64,
+    id_low: u64,
+) -> FinishAnswer
+    ensures { λ r. ⌜ Leaves (drainCall (lentTrees «tree_count» (now (trees .entry)) (now («watermark_marks» .entry)) (now (watermarks .entry)) (now («l0_ids» .entry)) (now («l0_sizes» .entry)) (now («run_ids» .entry)) (now («run_sizes» .entry))) (lentJobs «job_count» (now («job_ids» .entry)) (now («job_marks» .entry)) (now («job_specs» .entry)) (now («source_marks» .entry)) (now («source_runs» .entry)) (now («source_views» .entry))) (record { high = «id_high»; low = «id_low» })) r (now (trees .exit)) (now («watermark_marks» .exit)) (now (watermarks .exit)) (now («l0_ids» .exit)) (now («l0_sizes» .exit)) (now («run_ids» .exit)) (now («run_sizes» .exit)) (now («job_marks» .exit)) ⌝ }
+{
+    let mut l0_kept: [u8; 512] = [1; 512];
+    let mut runs_kept: [u8; 512] = [1; 512];
+    let found = find_drain(
+        tree_count,
+        trees,
+        watermark_marks,
+        watermarks,
+        l0_ids,
+        l0_sizes,
+        run_ids,
+        run_sizes,
+        job_count,
+        job_ids,
+        job_marks,
+        job_specs,
+        source_marks,
+        source_runs,
+        source_views,
+        id_high,
+        id_low,
+        &mut l0_kept,
+        &mut runs_kept,
+    );
+    match found {
+        Outcome::Refused(n) => FinishAnswer::Refused(n),
+        Outcome::Missing(job) => {
+            set_status(job_marks, job, 5);
+            FinishAnswer::SegmentMissing
+        }
+        Outcome::Commit { job, tree, mark } => {
+            keep_tree_rows(
+                tree_count,
+                trees,
+                l0_ids,
+                l0_sizes,
+                run_ids,
+                run_sizes,
+                tree,
+                &l0_kept,
+                &runs_kept,
+            );
+            set_watermark(
+                watermark_marks,
+                watermarks,
+                tree,
+                mark.view_mark,
+                mark.sst_mark,
+                mark.view_high,
+                mark.view_low,
+                mark.sst_high,
+                mark.sst_low,
+            );
+            set_status(job_marks, job, 4);
+            FinishAnswer::Committed
+        }
+    }
+}
