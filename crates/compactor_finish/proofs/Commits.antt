@@ -31,7 +31,8 @@ use Rattle.tree_rows.proofs.Changes.{in-tree, changed-same}
 use Rattle.compactor_finish.specs.declared.finishing.Work.{Work}
 use Rattle.compactor_finish.specs.declared.output.Place.{Place}
 use Rattle.compactor_finish.specs.declared.output.Place.the-variants.{Refused, At}
-use Rattle.compactor_finish.specs.Finding.{tablesRefusal, NoWork, JobFound, TreeFound, WorkFound, jobIn, namesIn}
+use Rattle.rows.specs.Refusals.{tablesRefusal}
+use Rattle.compactor_finish.specs.Finding.{NoWork, JobFound, TreeFound, WorkFound, jobIn, namesIn}
 use Rattle.compactor_finish.specs.Placing.{clashIn, oldPlace, placeIn}
 use Rattle.compactor_finish.specs.Flagging.{TreeRoom, JobRoom, rowStays, runStays, Flags}
 use Rattle.compactor_finish.specs.Finishes.{refusedWith, SegmentGone, Commits, Drains}

@@ -1,4 +1,4 @@
--- What finish and drain find: refusals 1 and 2 of both tables, the job and its tree, and which rows go.
+-- What finish and drain find: the job and its tree, and which rows go.
 use Prim.Native.Nat.{ℕ, _+_, _-_, _*_, _≤_, _<_}
 use mathlib.Core.Path.{_≡_, refl, sym, ap, _∙_}
 use mathlib.Core.List.{List, [], _∷_}
@@ -8,57 +8,20 @@ use lib.Dec.{eqb, leb}
 use lib.ListN.{length, getD, set}
 use lib.Seq.{paste}
 use borrow.Author.Tests.{eq-eqb, ne-eqb, leb-true}
-use Rattle.rules.specs.Lists.{any, all, leading, linked, _given_else_}
+use Rattle.rules.specs.Lists.{any, all, leading, linked}
 use Rattle.rules.specs.Tables.{Ulid, sameUlid, ulidBelow, SourceId, sortedRun, sameId, among}
 use Rattle.rules.specs.Lent.{LentTrees, LentJobs, rowsFrom, ulidAt, jobsOf, jobAt}
-use Rattle.rules.specs.Bounds.{treesOutside, jobsOutside, treesMisshapen, jobsMisshapen, treesRefusal, jobsRefusal, isMark, goodSources, goodJob, goodJobs}
+use Rattle.rules.specs.Bounds.{isMark, goodSources, goodJob, goodJobs}
 use Rattle.rules.specs.Finish.{finishJobRefusal, drainJobRefusal}
 use Rattle.rules.proofs.Appended.{any-append}
 use Rattle.rules.proofs.Rows.{length-rowsFrom, getD-rowsFrom}
 use Rattle.rules.proofs.Lookups.{and-left, and-right, all-at}
 use Rattle.rules.proofs.Packed.{length-jobsOf, job-is}
-use Rattle.rules.proofs.Bounds.{trees-good, jobs-good}
 use Rattle.rows.proofs.Finds.{Sought, seek-starts-at}
 use Rattle.rows.proofs.Scans.{Left}
 use Rattle.rows.proofs.Paste.{Pasted, pasted-none, pasted-more, pasted-all}
 use Rattle.rows.proofs.Found.{job-found, job-missing, tree-found}
-use Rattle.compactor_finish.specs.Finding.{tablesRefusal, NoWork, JobFound, TreeFound, jobIn, goneWith}
-
--- ---- refusals 1 and 2
-
-module _ (t : LentTrees) (j : LentJobs) where
-  pub trees-out : treesOutside t ≡ true → 1 ≡ tablesRefusal t j
-  unfolding tablesRefusal
-  trees-out e = rw e
-
-  pub jobs-out : treesOutside t ≡ false → jobsOutside j ≡ true → 1 ≡ tablesRefusal t j
-  unfolding tablesRefusal
-  jobs-out e f = rw (e, f)
-
-  pub trees-bad : treesOutside t ≡ false → jobsOutside j ≡ false → (v : ℕ) → v ≡ treesRefusal t → (v ≡ 0 → ⊥) → 2 ≡ tablesRefusal t j
-  unfolding tablesRefusal treesRefusal
-  trees-bad e f v is n = rw (e, f) (go (treesMisshapen t) (rw e at is))
-    where
-      go : (b : Bool) → v ≡ (2 given b else 0) → 2 ≡ (2 given b || jobsMisshapen j else 0)
-      go true z = refl
-      go false z = absurd (n z)
-
-  pub jobs-bad : jobsOutside j ≡ false → treesRefusal t ≡ 0 → (v : ℕ) → v ≡ jobsRefusal j → (v ≡ 0 → ⊥) → 2 ≡ tablesRefusal t j
-  unfolding tablesRefusal jobsRefusal
-  jobs-bad f g v is n =
-      let good = trees-good t g in
-      rw (good .inside, f, good .shapely) (go (jobsMisshapen j) (rw f at is))
-    where
-      go : (b : Bool) → v ≡ (2 given b else 0) → 2 ≡ (2 given b else 0)
-      go true z = refl
-      go false z = absurd (n z)
-
-  pub tables-good : treesRefusal t ≡ 0 → jobsRefusal j ≡ 0 → 0 ≡ tablesRefusal t j
-  unfolding tablesRefusal
-  tables-good g h =
-      let a = trees-good t g in
-      let b = jobs-good j h in
-      rw (a .inside, b .inside, a .shapely, b .shapely)
+use Rattle.compactor_finish.specs.Finding.{NoWork, JobFound, TreeFound, jobIn, goneWith}
 
 -- ---- the job
 

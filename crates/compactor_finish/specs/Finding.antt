@@ -2,25 +2,18 @@
 use Prim.Native.Nat.{ℕ, _+_, _*_, _≤_, _<_}
 use mathlib.Core.Path.{_≡_}
 use mathlib.Core.List.{List, [], _∷_, _++_}
-use mathlib.Core.Bool.{Bool, cond, _||_}
+use mathlib.Core.Bool.{Bool, cond}
 use mathlib.Core.Option.{some, none}
 use lib.Dec.{eqb}
 use lib.ListN.{length, getD}
-use Rattle.rules.specs.Lists.{total, _given_else_}
+use Rattle.rules.specs.Lists.{total}
 use Rattle.rules.specs.Tables.{Ulid, Run, Job, SourceId, sortedRun, idOf}
 use Rattle.rules.specs.Lent.{LentTrees, LentJobs, rowsFrom, sourceAt, treeAt, treesOf, jobAt, jobsOf, l0Count, runCount, sourceCount}
-use Rattle.rules.specs.Bounds.{treesOutside, jobsOutside, treesMisshapen, jobsMisshapen}
 use Rattle.rules.specs.Validation.{treeWith}
 use Rattle.rules.specs.Jobs.{jobWith}
 use Rattle.rules.specs.Finish.{finishJobRefusal, drainJobRefusal}
 use Rattle.compactor_finish.specs.declared.finishing.Work.{Work}
 use Rattle.compactor_finish.specs.declared.finishing.Work.the-variants.{Refused, Missing, Found}
-
--- "Checks run 1, 2": of trees and jobs
-unfoldable pub tablesRefusal : LentTrees → LentJobs → ℕ
-tablesRefusal t j = 1 given treesOutside t || jobsOutside j else 2 given treesMisshapen t || jobsMisshapen j else 0
-
--- ---- the job and its tree
 
 -- job i, and tree i, as they stand among the others
 abbrev pub jobIn : LentJobs → ℕ → Job

@@ -14,11 +14,11 @@ ghost use Rattle.compactor_finish.specs.Finishes.{DrainFound, Drains, Le
 use crate::finishing::Work;
 use crate::finishing::find_work;
 use crate::finishing::set_status;
-use crate::finishing::tables_refusal;
 use crate::flagging::flag_tree;
 use crate::watermarks::Mark;
 use crate::watermarks::drain_mark;
 use rows::read::tree_rows;
+use rows::tables::tables_refusal;
 use rules::FinishAnswer;
 use tree_rows::keep::keep_tree_rows;
 use tree_rows::watermark::set_watermark;

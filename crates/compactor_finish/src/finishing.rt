@@ -5,72 +5,12 @@ ghost use Prim.Native.Nat.{_+_, _*_, _<_, _≤_};
 ghost use lib.ListN.{length, getD, set};
 ghost use lib.Seq.{paste};
 ghost use Rattle.rules.specs.Tables.{Ulid, Source, sortedRun, sstView, idOf, among};
-ghost use Rattle.rules.specs.Lent.{LentTrees, LentJobs, lentTrees, lentJobs, rowsFrom, ulidAt, jobsOf};
+ghost use Rattle.rules.specs.Lent.{LentTrees, LentJobs, rowsFrom, ulidAt, jobsOf};
 ghost use Rattle.rules.specs.Bounds.{goodJobs};
-ghost use Rattle.compactor_finish.specs.Finding.{tablesRefusal, WorkFound, namesIn, goneWith, flagOf, SourceRoom};
-use rows::bounds::jobs_outside;
-use rows::bounds::trees_outside;
+ghost use Rattle.compactor_finish.specs.Finding.{WorkFound, namesIn, goneWith, flagOf, SourceRoom};
 use rows::find::find_job;
 use rows::find::find_prefix;
 use rows::ids::same_source;
-use rows::jobs::jobs_refusal;
-use rows::trees::trees_refusal;
-
-// "Checks run 1, 2": 1 of either table comes before 2 of either.
-pub fn tables_refusal(
-    tree_count: usize,
-    trees: &[u32],
-    watermark_marks: &[u8],
-    watermarks: &[u64],
-    l0_ids: &[u64],
-    l0_sizes: &[u64],
-    run_ids: &[u32],
-    run_sizes: &[u64],
-    job_count: usize,
-    job_ids: &[u64],
-    job_marks: &[u8],
-    job_specs: &[u32],
-    source_marks: &[u8],
-    source_runs: &[u32],
-    source_views: &[u64],
-) -> u32
-    ensures { λ r. ⌜ r ≡ tablesRefusal (lentTrees «tree_count» (now (trees .entry)) (now («watermark_marks» .entry)) (now (watermarks .entry)) (now («l0_ids» .entry)) (now («l0_sizes» .entry)) (now («run_ids» .entry)) (now («run_sizes» .entry))) (lentJobs «job_count» (now («job_ids» .entry)) (now («job_marks» .entry)) (now («job_specs» .entry)) (now («source_marks» .entry)) (now («source_runs» .entry)) (now («source_views» .entry))) ⌝ }
-{
-    if trees_outside(tree_count, trees) {
-        return 1;
-    }
-    if jobs_outside(job_count, job_specs) {
-        return 1;
-    }
-    if trees_refusal(
-        tree_count,
-        trees,
-        watermark_marks,
-        watermarks,
-        l0_ids,
-        l0_sizes,
-        run_ids,
-        run_sizes,
-    )
-        != 0
-    {
-        return 2;
-    }
-    if jobs_refusal(
-        job_count,
-        job_ids,
-        job_marks,
-        job_specs,
-        source_marks,
-        source_runs,
-        source_views,
-    )
-        != 0
-    {
-        return 2;
-    }
-    0
-}
 
 // A refusal's number; or the job's row, where its segment is missing; or the rows of the job and of its tree.
 pub enum Work {

@@ -12,7 +12,8 @@ use Rattle.rules.specs.Lent.{sourcesOf}
 use Rattle.rules.specs.Bounds.{goodJob, goodJobs}
 use Rattle.rules.specs.Jobs.{jobWith, inserted}
 use Rattle.rules.proofs.Lookups.{and-left, and-right, same-ulid, ulid-same, ulid-ids}
-use Rattle.rules.proofs.Sorted.{above-else, all-weaker}
+use Rattle.rules.proofs.Ulids.{below-total}
+use Rattle.rules.proofs.Sorted.{all-weaker}
 use Rattle.laws.specs.NothingLost.{othersThan, count, Added}
 use Rattle.laws.proofs.Used.{keep-append}
 use Rattle.laws.proofs.JobIds.{below, job-trans, Good, good-parts, parts-good, first-below, rest-good, cons-good, first-good, same-left, above-others, keep-none}
@@ -61,7 +62,7 @@ module _ (j : Job) where
       go false e true f ih =
           cons-good j (k ∷ ks) (ap₂ _&&_ f (all-weaker (below k) (below j) (λ x. job-trans j k x f) ks (first-below k ks g))) h g
       go false e false f ih =
-          cons-good k (inserted j ks) (inserted-all (below k) ks (above-else (k .id) (j .id) e f) (first-below k ks g)) (first-good k ks g) ih
+          cons-good k (inserted j ks) (inserted-all (below k) ks (below-total (k .id) (j .id) e f) (first-below k ks g)) (first-good k ks g) ih
 
   -- the others stand as they stood
   inserted-others : (js : List Job) → othersThan (j .id) (inserted j js) ≡ othersThan (j .id) js

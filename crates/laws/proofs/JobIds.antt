@@ -6,7 +6,8 @@ use Rattle.rules.specs.Lists.{any, all, keep, linked}
 use Rattle.rules.specs.Tables.{Ulid, sameUlid, ulidBelow, Job}
 use Rattle.rules.specs.Bounds.{goodJob, goodJobs}
 use Rattle.rules.proofs.Lookups.{and-left, and-right, or-left, or-right, same-ulid}
-use Rattle.rules.proofs.Sorted.{below-trans, below-apart, linked-rest, linked-cons, linked-first, all-none}
+use Rattle.rules.proofs.Ulids.{below-trans, below-other}
+use Rattle.rules.proofs.Sorted.{linked-rest, linked-cons, linked-first, all-none}
 
 -- by id
 abbrev pub below : Job → Job → Bool
@@ -50,7 +51,7 @@ same-left a b u h = ap (λ (x : Ulid). sameUlid x u) (same-ulid a b h)
 
 -- jobs above u are not of that id
 pub above-others : (u : Ulid) (ks : List Job) → all (λ k. ulidBelow u (k .id)) ks ≡ true → any (λ k. sameUlid (k .id) u) ks ≡ false
-above-others u ks h = all-none (λ k. ulidBelow u (k .id)) (λ k. sameUlid (k .id) u) (λ k. below-apart u (k .id)) ks h
+above-others u ks h = all-none (λ k. ulidBelow u (k .id)) (λ k. sameUlid (k .id) u) (λ k. below-other u (k .id)) ks h
 
 -- of entries of which none has p, none is kept
 pub keep-none : {A : Type 0} (p : A → Bool) (xs : List A) → any p xs ≡ false → keep p xs ≡ []
