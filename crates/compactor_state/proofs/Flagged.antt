@@ -3,8 +3,7 @@ use Prim.Native.Nat.{ℕ, zero, suc, _+_, _*_, _≤_, _<_, suc-le-suc}
 use mathlib.Core.Path.{_≡_, refl, sym, ap, _∙_}
 use mathlib.Core.List.{List, [], _∷_}
 use mathlib.Core.Bool.{Bool, true, false, cond, not}
-use mathlib.Core.Logic.{⊎-elim}
-use mathlib.Core.Option.{Option, some}
+use mathlib.Core.Option.{Option}
 use native.Mathlib.Nat.{zero-add, add-zero}
 use native.Mathlib.Numerals.{add-one}
 use native.Mathlib.Omega.{arith}
@@ -15,9 +14,9 @@ use lib.Dec.{eqb}
 use lib.ListN.{length, getD, set, length-set, length-append}
 use lib.Seq.{getD-set-same, getD-set-other}
 use Rattle.rules.specs.Lists.{keep, leading, total, concatMap}
-use Rattle.rules.specs.Tables.{sameUlid, Job, Source}
+use Rattle.rules.specs.Tables.{sameUlid, Job}
 use Rattle.rules.specs.Lent.{LentJobs, rowsFrom, ulidAt, sourceAt, sourceCount, jobAt, jobsFrom, jobsOf, sourcesOf}
-use Rattle.rules.specs.Jobs.{jobWith, adoption, adopts}
+use Rattle.rules.specs.Jobs.{adoption, adopts}
 use Rattle.rules.proofs.Rows.{length-rowsFrom}
 use Rattle.rules.proofs.Packed.{length-jobsOf, job-is}
 use Rattle.rows.specs.Movers.{marked}

@@ -1,7 +1,7 @@
 -- Merging: which local jobs stay and which remote ones are adopted is known from the two tables as they were; the jobs after
 -- the merge are those that stay, with the adopted ones put at their places one after the other.
-use Prim.Native.Nat.{ℕ, suc, _+_}
-use mathlib.Core.Path.{_≡_, refl, sym, ap, ap₂, _∙_, subst, subst₂, fun-ext}
+use Prim.Native.Nat.{_+_}
+use mathlib.Core.Path.{_≡_, refl, sym, ap, _∙_, subst, subst₂, fun-ext}
 use mathlib.Core.List.{List, [], _∷_}
 use mathlib.Core.Bool.{Bool, true, false, cond, _&&_, _||_, not, true≢false}
 use mathlib.Core.Option.{Option, some, none}
@@ -9,20 +9,28 @@ use native.Mathlib.Omega.{arith}
 use borrow.Author.Tests.{not-true}
 use lib.Dec.{ltb}
 use lib.ListN.{length, length-append}
-use Rattle.rules.specs.Lists.{any, all, keep, firstWith, concatMap}
+use Rattle.rules.specs.Lists.{all, keep, firstWith, concatMap}
 use Rattle.rules.specs.Tables.{Ulid, sameUlid, ulidBelow, Job}
 use Rattle.rules.specs.Lent.{sourcesOf}
 use Rattle.rules.specs.Bounds.{maxJobs, maxSources}
 use Rattle.rules.specs.Jobs.{jobWith, inserted, adopts, merged, tooMany}
-use Rattle.compactor_state.specs.Merge.{adopted, notTaken, stays}
-use Rattle.rules.proofs.Lookups.{and-left, and-right, same-ulid, ulid-same, ulid-ids, first-none}
+use Rattle.compactor_state.specs.Merge.{adopted, notTaken, stays, insertedAll, allNew}
+use Rattle.rules.proofs.Lookups.{and-left, and-right, same-ulid, ulid-ids, first-none}
 use Rattle.rules.proofs.Ulids.{below-other}
 use Rattle.rules.proofs.Inserting.{keep-same, keep-all, none-kept, rising, hasId, allAbove, rising-rest, rising-first, above-absent, length-inserted, entries-inserted, rising-inserted, found-other, keep-inserted}
 
--- jobs J that come of jobs K when those of a list, none of whose ids is there already, are put at their places one after the other
-pub data Takes (J : List Job) : List Job → List Job → Type 0 where
-  nothing : {K : List Job} → K ≡ J → Takes J K []
-  one : {K A : List Job} {a : Job} → hasId (a .id) K ≡ false → Takes J (inserted a K) A → Takes J K (a ∷ A)
+-- jobs J that come of jobs K when new jobs A are put at their places one after the other
+pub record Takes (J K A : List Job) : Type 0 where
+  pub result : insertedAll K A ≡ J
+  pub new : allNew K A ≡ true
+
+nothing : {J K : List Job} → K ≡ J → Takes J K []
+unfolding insertedAll allNew
+nothing e = record { result = e; new = refl }
+
+one : {J K A : List Job} {a : Job} → hasId (a .id) K ≡ false → Takes J (inserted a K) A → Takes J K (a ∷ A)
+unfolding insertedAll allNew
+one h t = record { result = t .result; new = rw h (t .new) }
 
 -- a turned test
 turned : (a b : Ulid) → sameUlid a b ≡ false → sameUlid b a ≡ false
@@ -112,16 +120,28 @@ merged-takes known (r ∷ rs) h k =
 
 -- ---- how many jobs and entries there are then
 
-pub taken-jobs : {J K A : List Job} → Takes J K A → length J ≡ length K + length A
-taken-jobs (nothing e) = omega (arith, ap length e)
-taken-jobs (one {K} {A} {a} h t) = omega (arith, length-inserted a K h, taken-jobs t)
+pub length-all : (K A : List Job) → allNew K A ≡ true → length (insertedAll K A) ≡ length K + length A
+unfolding insertedAll allNew
+length-all K [] h = omega arith
+length-all K (a ∷ A) h =
+    omega (arith, length-inserted a K (not-true (hasId (a .id) K) (and-left (not (hasId (a .id) K)) (allNew (inserted a K) A) h)), length-all (inserted a K) A (and-right (not (hasId (a .id) K)) (allNew (inserted a K) A) h))
 
-pub taken-entries : {J K A : List Job} → Takes J K A → length (sourcesOf J) ≡ length (sourcesOf K) + length (sourcesOf A)
-unfolding concatMap
-taken-entries (nothing e) = omega (arith, ap (λ (js : List Job). length (sourcesOf js)) e)
-taken-entries (one {K} {A} {a} h t) = omega (arith, entries-inserted a K h, taken-entries t, length-append (a .sources) (sourcesOf A))
+pub entries-all : (K A : List Job) → allNew K A ≡ true → length (sourcesOf (insertedAll K A)) ≡ length (sourcesOf K) + length (sourcesOf A)
+unfolding insertedAll allNew concatMap
+entries-all K [] h = omega arith
+entries-all K (a ∷ A) h =
+    omega (
+      arith,
+      entries-inserted a K (not-true (hasId (a .id) K) (and-left (not (hasId (a .id) K)) (allNew (inserted a K) A) h)),
+      entries-all (inserted a K) A (and-right (not (hasId (a .id) K)) (allNew (inserted a K) A) h),
+      length-append (a .sources) (sourcesOf A),
+    )
 
 -- refusal 14, known before anything is changed
 pub too-many : {J K A : List Job} → Takes J K A → tooMany J ≡ ltb maxJobs (length K + length A) || ltb maxSources (length (sourcesOf K) + length (sourcesOf A))
 unfolding tooMany
-too-many t = rw (taken-jobs t, taken-entries t)
+too-many {J} {K} {A} t =
+    rw (
+      ap length (sym (t .result)) ∙ length-all K A (t .new),
+      ap (λ (js : List Job). length (sourcesOf js)) (sym (t .result)) ∙ entries-all K A (t .new),
+    )

@@ -2,14 +2,13 @@
 use Prim.Native.Nat.{ℕ, _+_, _*_}
 use mathlib.Core.Path.{_≡_, sym, ap, _∙_}
 use mathlib.Core.List.{List}
-use mathlib.Core.Bool.{Bool, true, cond, _||_}
+use mathlib.Core.Bool.{true, cond, _||_}
 use lib.Dec.{ltb}
 use lib.ListN.{length, getD}
 use Rattle.rules.specs.Lists.{keep, linked, total}
 use Rattle.rules.specs.Tables.{ulidBelow, Job}
 use Rattle.rules.specs.Lent.{LentJobs, rowsFrom, ulidAt, jobsOf, sourcesOf}
 use Rattle.rules.specs.Bounds.{maxJobs, maxSources}
-use Rattle.rules.specs.Jobs.{merged, tooMany}
 use Rattle.rules.proofs.Inserting.{rising}
 use Rattle.rows.specs.Movers.{marked}
 use Rattle.rows.proofs.Shapes.{linked-map, ids-are}

@@ -1,15 +1,15 @@
 -- What merging finds out before it changes anything: which remote jobs are adopted and which local jobs stay, as flags.
 use Prim.Native.Nat.{ℕ, _+_, _*_, _<_, _≤_}
 use mathlib.Core.Path.{_≡_}
-use mathlib.Core.List.{List}
-use mathlib.Core.Bool.{Bool, true, cond, not}
+use mathlib.Core.List.{List, [], _∷_}
+use mathlib.Core.Bool.{Bool, true, cond, _&&_, _||_, not}
 use mathlib.Core.Option.{Option, some, none}
 use lib.ListN.{length, getD}
-use Rattle.rules.specs.Lists.{linked, total}
-use Rattle.rules.specs.Tables.{ulidBelow, Job}
+use Rattle.rules.specs.Lists.{any, linked, total, _given_else_}
+use Rattle.rules.specs.Tables.{sameUlid, ulidBelow, Job}
 use Rattle.rules.specs.Lent.{LentJobs, rowsFrom, ulidAt, jobsOf}
-use Rattle.rules.specs.Bounds.{maxJobs, maxSources}
-use Rattle.rules.specs.Jobs.{jobWith, adopts, merged, tooMany}
+use Rattle.rules.specs.Bounds.{maxJobs, maxSources, jobsOutside, jobsMisshapen}
+use Rattle.rules.specs.Jobs.{jobWith, inserted, adopts, merged, tooMany}
 use Rattle.rows.specs.Movers.{marked}
 
 -- "The adoption table (local status against remote status)": a remote job against the local ones
@@ -25,10 +25,25 @@ notTaken p (some r) = not (p r)
 abbrev pub stays : (Job → Bool) → List Job → Job → Bool
 stays p rs l = notTaken p (jobWith (l .id) rs)
 
+-- jobs put at their places by id, one after the other
+unfoldable pub insertedAll : List Job → List Job → List Job
+insertedAll ks [] = ks
+insertedAll ks (j ∷ js) = insertedAll (inserted j ks) js
+
+-- none of them has an id that is there when its turn comes
+unfoldable pub allNew : List Job → List Job → Bool
+allNew ks [] = true
+allNew ks (j ∷ js) = not (any (λ k. sameUlid (k .id) (j .id)) ks) && allNew (inserted j ks) js
+
 -- a flag for each job, not 0 where p holds
 pub record Flags (p : Job → Bool) (js : List Job) (flags : List ℕ) : Type 0 where
   pub room : length flags ≡ maxJobs
   pub says : (d : Job) (k : ℕ) → k < length js → marked (getD flags k 0) ≡ p (getD js k d)
+
+-- the jobs with a flag, where flag i is that of the first
+unfoldable pub withFlag : List ℕ → ℕ → List Job → List Job
+withFlag flags i [] = []
+withFlag flags i (j ∷ js) = cond (marked (getD flags i 0)) (j ∷ withFlag flags (i + 1) js) (withFlag flags (i + 1) js)
 
 -- b says whether remote job i, by its id and status, is adopted by the local jobs with these ids and statuses
 pub record AdoptedRow (count : ℕ) (ids marks remoteIds remoteMarks : List ℕ) (i : ℕ) (b : Bool) : Type 0 where
@@ -60,3 +75,7 @@ pub record Planned (l r : LentJobs) (refusal : ℕ) (taken staying : List ℕ) :
   pub fits : refusal ≡ cond (tooMany (merged (jobsOf l) (jobsOf r))) 14 0
   pub takes : Flags (adopted (jobsOf l)) (jobsOf r) taken
   pub keeps : Flags (stays (adopted (jobsOf l)) (jobsOf r)) (jobsOf l) staying
+
+-- "Merge: 1 and 2 on both job tables, then 14.": up to 14
+unfoldable pub tablesRefusal : LentJobs → LentJobs → ℕ
+tablesRefusal l r = 1 given jobsOutside l || jobsOutside r else 2 given jobsMisshapen l || jobsMisshapen r else 0

@@ -1,6 +1,7 @@
-// slatedb's job rules over rows of lent tables: adding, retention, which remote records are adopted, and which jobs clash.
+// slatedb's job rules over rows of lent tables: adding, merging, retention, which remote records are adopted, and which jobs clash.
 pub mod add;
 pub mod adding;
 pub mod adoption;
+pub mod merge;
 mod merging;
 pub mod retain;

@@ -1,9 +1,9 @@
 -- A job put at its place by id (`inserted`) among jobs in rising id order: how many there are then, that their ids rise, what a
 -- look-up finds, and what a choice of them keeps.
-use Prim.Native.Nat.{ℕ, suc, _+_}
+use Prim.Native.Nat.{suc, _+_}
 use mathlib.Core.Path.{_≡_, refl, sym, ap, _∙_}
 use mathlib.Core.List.{List, [], _∷_}
-use mathlib.Core.Bool.{Bool, true, false, cond, _&&_, _||_, not}
+use mathlib.Core.Bool.{Bool, true, false, cond, _&&_, not}
 use mathlib.Core.Option.{Option, some}
 use native.Mathlib.Omega.{arith}
 use lib.ListN.{length, length-append}

@@ -1,4 +1,5 @@
--- `compactor_state::merging::flagged_entries` meets its contract. Assumes nothing.
+-- `flagged_entries` meets its contract: the invariant is that the sum so far and the sum of the jobs left are the sum of all (`Summed`); a job adds
+-- less than 2^32.
 use borrow.Author.Needs.{needs}
 use Prim.Native.Nat.{_+_, _-_, _*_, _≤_}
 use mathlib.Core.Bool.{cond}
@@ -8,10 +9,6 @@ use Rattle.rows.specs.Movers.{marked}
 use Rattle.rows.proofs.Sums.{Summed, sum-starts, sum-next, sum-ends}
 use Rattle.compactor_state.proofs.merging.flagged_entries.Statement.{statement}
 use Rattle.compactor_state.proofs.merging.flagged_entries.Tie as tie
-use Rattle.compactor_state.proofs.merging.flagged_entries.Reads as reads
-use Rattle.compactor_state.proofs.merging.flagged_entries.Lts as lts
-use Rattle.compactor_state.proofs.merging.counted.Reads as counted-reads
-use Rattle.rows.proofs.bounds.wide.Reads as wide-reads
 
 abbrev Inv-loop : tie.InvT-loop
 Inv-loop flags job-specs n sum₀ i₀ sum i = (i ≤ n) × (sum ≤ 4294967295 * i) × Summed (λ k. cond (marked (getD flags k 0)) (getD job-specs (3 * k + 2) 0) 0) n sum i
@@ -19,55 +16,42 @@ Inv-loop flags job-specs n sum₀ i₀ sum i = (i ≤ n) × (sum ≤ 4294967295 
 abbrev μ-loop : tie.MeasureT-loop
 μ-loop flags job-specs n sum₀ i₀ sum i = n - i
 
--- src/merging.rt:136:5
 loop-holds : tie.Need-loop-holds Inv-loop μ-loop
 loop-holds c = (search needs, search needs, sum-starts _ _)
 
--- src/merging.rt:137:24
 element-copy-out-counted : tie.Need-element-copy-out-counted Inv-loop μ-loop
 element-copy-out-counted c = search needs
 
--- src/merging.rt:137:49
 mul-wide : tie.Need-mul-wide Inv-loop μ-loop
 mul-wide c = search needs
 
--- src/merging.rt:137:49
 add-wide : tie.Need-add-wide Inv-loop μ-loop
 add-wide c = search needs
 
--- src/merging.rt:137:39
 mul-wide-2 : tie.Need-mul-wide-2 Inv-loop μ-loop
 mul-wide-2 c = search needs
 
--- src/merging.rt:137:39
 shared-slice-read-wide : tie.Need-shared-slice-read-wide Inv-loop μ-loop
 shared-slice-read-wide c = search needs
 
--- src/merging.rt:137:34
 wide-requires : tie.Need-wide-requires Inv-loop μ-loop
 wide-requires c κs = search needs
 
--- src/merging.rt:137:16
 counted-requires : tie.Need-counted-requires Inv-loop μ-loop
 counted-requires c κs = search needs
 
--- src/merging.rt:137:9
 add-sum : tie.Need-add-sum Inv-loop μ-loop
 add-sum c = omega (arith, c .before .before .before .before .before .before .shared-slice-known .given (3 * (c .before .before .before .before .before .loop .i) + 2))
 
--- src/merging.rt:138:9
 add-i : tie.Need-add-i Inv-loop μ-loop
 add-i c = search needs
 
--- src/merging.rt:136:5
 loop-less : tie.Need-loop-less Inv-loop μ-loop
 loop-less c = search needs
 
--- src/merging.rt:136:5
 loop-again : tie.Need-loop-again Inv-loop μ-loop
 loop-again c = (search needs, omega (arith, c .before .before .before .before .before .before .shared-slice-known .given (3 * (c .before .before .before .before .before .loop .i) + 2)), sum-next _ _ _ _ _ (c .before .before .before .before .loop-test .taken) (rw (c .before .wide .ensures) at (c .counted .ensures .0)) (c .before .before .before .before .before .loop .inv .2))
 
--- src/merging.rt:130:1
 returns : tie.Need-returns Inv-loop μ-loop
 returns c = (sum-ends _ _ _ _ (c .loop-test .left) (c .before .loop .inv .2), search needs)
 

@@ -1,4 +1,4 @@
--- `compactor_state::merging::mark_adopted` meets its contract. Assumes nothing.
+-- `mark_adopted` meets its contract: the invariant is that the flags so far say which remote jobs are adopted (`Flagged`).
 use borrow.Author.Needs.{needs}
 use Prim.Native.Nat.{_-_}
 use native.Mathlib.Omega.{arith}
@@ -7,9 +7,6 @@ use Rattle.compactor_state.specs.Merge.{AdoptedRow}
 use Rattle.compactor_state.proofs.Flagged.{Flagged, flags-start, flags-next, adopted-flags}
 use Rattle.compactor_state.proofs.merging.mark_adopted.Statement.{statement}
 use Rattle.compactor_state.proofs.merging.mark_adopted.Tie as tie
-use Rattle.compactor_state.proofs.merging.mark_adopted.Reads as reads
-use Rattle.compactor_state.proofs.merging.mark_adopted.Lts as lts
-use Rattle.compactor_state.proofs.merging.adopted_at.Reads as adopted-at-reads
 
 abbrev Inv-loop : tie.InvT-loop
 Inv-loop job-count job-ids job-marks remote-count remote-ids remote-marks flags₀ i₀ flags i = Flagged (AdoptedRow job-count job-ids job-marks remote-ids remote-marks) remote-count i flags
@@ -17,35 +14,27 @@ Inv-loop job-count job-ids job-marks remote-count remote-ids remote-marks flags�
 abbrev μ-loop : tie.MeasureT-loop
 μ-loop job-count job-ids job-marks remote-count remote-ids remote-marks flags₀ i₀ flags i = remote-count - i
 
--- src/merging.rt:51:5
 loop-holds : tie.Need-loop-holds Inv-loop μ-loop
 loop-holds c = flags-start refl
 
--- src/merging.rt:52:20
 adopted-at-requires : tie.Need-adopted-at-requires Inv-loop μ-loop
 adopted-at-requires c κs = ((c .before .before .before .before .before .before) .pre .0, (c .before .before .before .before .before .before) .pre .1, omega arith, omega arith, (c .before .before .before .before .before .before) .pre .5 (c .before .loop .i) (c .loop-test .taken), (c .before .before .before .before .before .before) .pre .6)
 
--- src/merging.rt:52:20
 cast-flags : tie.Need-cast-flags Inv-loop μ-loop
 cast-flags c = search needs
 
--- src/merging.rt:52:9
 array-write-flags : tie.Need-array-write-flags Inv-loop μ-loop
 array-write-flags c = search needs
 
--- src/merging.rt:60:9
 add-i : tie.Need-add-i Inv-loop μ-loop
 add-i c = search needs
 
--- src/merging.rt:51:5
 loop-less : tie.Need-loop-less Inv-loop μ-loop
 loop-less c = search needs
 
--- src/merging.rt:51:5
 loop-again : tie.Need-loop-again Inv-loop μ-loop
 loop-again c = flags-next (c .before .before .loop .inv) (c .before .loop-test .taken) ((c .before .before .before .before .before .before .before) .pre .2) (c .adopted-at .ensures)
 
--- src/merging.rt:38:1
 returns : tie.Need-returns Inv-loop μ-loop
 returns c = λ l s n li lm m ri rm. adopted-flags l s (c .before .loop .inv) (c .loop-test .left) n li lm m ri rm
 

@@ -1,54 +1,37 @@
--- `compactor_state::merging::plan_merge` meets its contract. Assumes nothing.
+-- `plan_merge` meets its contract: the sums over the flags are those of the merged jobs (`planned-merge`).
 use borrow.Author.Needs.{needs}
 use native.Mathlib.Omega.{arith}
 use Rattle.compactor_state.proofs.Plans.{planned-merge}
 use Rattle.compactor_state.proofs.merging.plan_merge.Statement.{statement}
 use Rattle.compactor_state.proofs.merging.plan_merge.Tie as tie
-use Rattle.compactor_state.proofs.merging.plan_merge.Reads as reads
-use Rattle.compactor_state.proofs.merging.plan_merge.Lts as lts
-use Rattle.compactor_state.proofs.merging.exceeds.Reads as exceeds-reads
-use Rattle.compactor_state.proofs.merging.flagged_entries.Reads as flagged-entries-reads
-use Rattle.compactor_state.proofs.merging.flagged_jobs.Reads as flagged-jobs-reads
-use Rattle.compactor_state.proofs.merging.mark_adopted.Reads as mark-adopted-reads
-use Rattle.compactor_state.proofs.merging.mark_staying.Reads as mark-staying-reads
 
--- src/merging.rt:178:17
 mark-adopted-requires : tie.Need-mark-adopted-requires
 mark-adopted-requires c κs = (omega arith, omega arith, omega arith, omega arith, omega arith, (c .before .before .before .before .before .before) .pre .1 .status, (c .before .before .before .before .before .before) .pre .0 .status)
 
--- src/merging.rt:186:19
 mark-staying-requires : tie.Need-mark-staying-requires
 mark-staying-requires c κs = search needs
 
--- src/merging.rt:187:16
 flagged-jobs-requires : tie.Need-flagged-jobs-requires
 flagged-jobs-requires c κs = search needs
 
--- src/merging.rt:187:52
 flagged-jobs-requires-2 : tie.Need-flagged-jobs-requires-2
 flagged-jobs-requires-2 c κs = search needs
 
--- src/merging.rt:187:16
 add-jobs : tie.Need-add-jobs
 add-jobs c = omega (arith, (c .before .before .before .before .before .before .before .before .before .before .before .before .before) .pre, c .before .before .flagged-jobs .ensures .1, c .flagged-jobs2 .ensures .1)
 
--- src/merging.rt:188:19
 flagged-entries-requires : tie.Need-flagged-entries-requires
 flagged-entries-requires c κs = search needs
 
--- src/merging.rt:189:11
 flagged-entries-requires-2 : tie.Need-flagged-entries-requires-2
 flagged-entries-requires-2 c κs = search needs
 
--- src/merging.rt:188:19
 add-entries : tie.Need-add-entries
 add-entries c = omega (arith, (c .before .before .before .before .before .before .before .before .before .before .before .before .before .before .before .before .before) .pre, c .before .before .flagged-entries .ensures .1, c .flagged-entries2 .ensures .1)
 
--- src/merging.rt:190:9
 exceeds-requires : tie.Need-exceeds-requires
 exceeds-requires c κs = search needs
 
--- src/merging.rt:165:1
 returns : tie.Need-returns
 returns c = λ l s h g.
     let t = c .before .before .before .before .before .before .before .before .before .before .before .mark-adopted .ensures l s (h .jobs) (h .idRows) (h .markRows) (g .jobs) (g .idRows) (g .markRows) in

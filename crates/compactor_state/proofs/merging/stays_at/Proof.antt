@@ -1,54 +1,40 @@
--- `compactor_state::merging::stays_at` meets its contract. Assumes nothing.
+-- `stays_at` meets its contract: ids are distinct, so the remote job that is found is the one that could replace it (`stays-found`).
 use borrow.Author.Needs.{needs}
 use Rattle.compactor_state.proofs.Flagged.{stays-found, stays-missing}
 use mathlib.Core.Path.{refl}
 use Rattle.compactor_state.proofs.merging.stays_at.Statement.{statement}
 use Rattle.compactor_state.proofs.merging.stays_at.Tie as tie
-use Rattle.compactor_state.proofs.merging.stays_at.Reads as reads
-use Rattle.compactor_state.proofs.merging.stays_at.Lts as lts
-use Rattle.rows.proofs.find.find_job.Reads as find-job-reads
 
--- src/merging.rt:76:56
 mul-find-job : tie.Need-mul-find-job
 mul-find-job c = search needs
 
--- src/merging.rt:76:48
 mul-find-job-2 : tie.Need-mul-find-job-2
 mul-find-job-2 c = search needs
 
--- src/merging.rt:76:48
 shared-slice-read-find-job : tie.Need-shared-slice-read-find-job
 shared-slice-read-find-job c = search needs
 
--- src/merging.rt:76:72
 mul-find-job-3 : tie.Need-mul-find-job-3
 mul-find-job-3 c = search needs
 
--- src/merging.rt:76:72
 add-find-job : tie.Need-add-find-job
 add-find-job c = search needs
 
--- src/merging.rt:76:64
 mul-find-job-4 : tie.Need-mul-find-job-4
 mul-find-job-4 c = search needs
 
--- src/merging.rt:76:64
 shared-slice-read-find-job-2 : tie.Need-shared-slice-read-find-job-2
 shared-slice-read-find-job-2 c = search needs
 
--- src/merging.rt:76:9
 find-job-requires : tie.Need-find-job-requires
 find-job-requires c κs = search needs
 
--- src/merging.rt:78:16
 element-copy-out-result : tie.Need-element-copy-out-result
 element-copy-out-result c = search needs
 
--- src/merging.rt:78:9
 returns : tie.Need-returns
 returns c = stays-found (c .before .before .find-job .ensures) (c .before .if1 .taken) refl
 
--- src/merging.rt:66:1
 returns-2 : tie.Need-returns-2
 returns-2 c = stays-missing (c .before .find-job .ensures) (c .if1 .left)
 
