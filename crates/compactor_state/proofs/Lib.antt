@@ -2,8 +2,8 @@
 pub mod Table
 pub mod Adopted
 pub mod Clashes
-pub mod Flagged
 pub mod Merged
+pub mod Flagged
 pub mod Plans
 pub mod Taking
 pub mod Answered
