@@ -2,9 +2,11 @@
 pub mod Table
 pub mod Adopted
 pub mod Clashes
-pub mod Merged
 pub mod Flagged
+pub mod Merged
 pub mod Plans
 pub mod Taking
 pub mod Answered
+pub mod Retaining
+pub mod AddCall
 pub mod MergeCall

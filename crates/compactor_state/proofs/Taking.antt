@@ -6,19 +6,18 @@ use mathlib.Core.Bool.{Bool, true, false, cond, _&&_, not, true≢false}
 use native.Mathlib.Nat.{zero-add, sub-zero}
 use native.Mathlib.Omega.{arith}
 use lib.Dec.{ltb}
-use lib.ListN.{length, getD, take, drop, length-drop, length-map}
+use lib.ListN.{length, getD, take, drop, length-drop}
 use lib.Seq.{getD-take, getD-drop, length-take-le}
 use borrow.Author.Tests.{not-true, ltb-false}
-use Rattle.rules.specs.Lists.{keep, concatMap}
-use Rattle.rules.specs.Tables.{Source, Job}
-use Rattle.rules.specs.Lent.{LentJobs, rowsFrom, sourceAt, sourceCount, sourcesUsed, jobAt, jobsFrom, jobsOf, sourcesOf, laid, layJobs, ulidWords, jobMarkWords, jobSpecWords}
+use Rattle.rules.specs.Lists.{keep}
+use Rattle.rules.specs.Tables.{Job}
+use Rattle.rules.specs.Lent.{LentJobs, rowsFrom, sourceAt, sourceCount, sourcesUsed, jobAt, jobsFrom, jobsOf, sourcesOf, layJobs}
 use Rattle.rules.specs.Bounds.{maxJobs, maxSources}
 use Rattle.rules.specs.Validation.{lentSources}
 use Rattle.rules.specs.Jobs.{jobOf, inserted, merged, tooMany}
 use Rattle.rules.proofs.Lookups.{and-left, and-right, or-left, or-right}
 use Rattle.rules.proofs.Records.{job-eq, source-eq, ulid-eq}
-use Rattle.rules.proofs.Rows.{rowsFrom-same, length-words, length-rowsFrom}
-use Rattle.rules.proofs.Laid.{length-laid}
+use Rattle.rules.proofs.Rows.{rowsFrom-same, length-rowsFrom}
 use Rattle.rules.proofs.Packed.{length-jobsOf, length-sources}
 use Rattle.rules.proofs.ReadBack.{jobs-back}
 use Rattle.rules.proofs.Inserting.{hasId, length-inserted, entries-inserted}
@@ -26,26 +25,10 @@ use Rattle.rows.specs.Movers.{marked}
 use Rattle.rows.proofs.Sums.{Summed, sum-starts, sum-next}
 use Rattle.rows.proofs.Lift.{marks-say}
 use Rattle.job_rows.specs.Slices.{AtCapacity, HasRoom, Inserts, Keeps, lentJob}
-use Rattle.job_rows.proofs.Again.{sources-laid, lay-again}
+use Rattle.job_rows.proofs.Again.{lay-again, lay-fits}
 use Rattle.compactor_state.specs.Merge.{adopted, stays, insertedAll, allNew, Flags, withFlag}
 use Rattle.compactor_state.specs.Taking.{CanTake, Took, CanTakeAll, TookAll, Ready}
 use Rattle.compactor_state.proofs.Merged.{Takes, merged-takes, length-all, entries-all}
-
--- ---- a table with other jobs laid in it is at capacity where they fit
-
-pub lay-fits : (j : LentJobs) (js : List Job) → AtCapacity j → length js ≤ maxJobs → length (sourcesOf js) ≤ maxSources → AtCapacity (layJobs j js)
-unfolding layJobs
-lay-fits j js a h l =
-    record {
-      jobs = h;
-      sources = omega (arith, sources-laid j js);
-      jobIds = length-laid (2 * j .count) (concatMap (λ x. ulidWords (x .id)) js) (j .jobIds) (omega (arith, a)) (omega (arith, a, length-words (λ (x : Job). ulidWords (x .id)) 2 (λ x. refl) js)) ∙ a .jobIds;
-      jobMarks = length-laid (2 * j .count) (concatMap jobMarkWords js) (j .jobMarks) (omega (arith, a)) (omega (arith, a, length-words jobMarkWords 2 (λ x. refl) js)) ∙ a .jobMarks;
-      jobSpecs = length-laid (3 * j .count) (concatMap jobSpecWords js) (j .jobSpecs) (omega (arith, a)) (omega (arith, a, length-words jobSpecWords 3 (λ x. refl) js)) ∙ a .jobSpecs;
-      sourceMarks = length-laid (sourcesUsed j) (map (λ s. s .mark) (sourcesOf js)) (j .sourceMarks) (omega (arith, a)) (omega (arith, a, length-map (sourcesOf js) (λ (s : Source). s .mark))) ∙ a .sourceMarks;
-      sourceRuns = length-laid (sourcesUsed j) (map (λ s. s .run) (sourcesOf js)) (j .sourceRuns) (omega (arith, a)) (omega (arith, a, length-map (sourcesOf js) (λ (s : Source). s .run))) ∙ a .sourceRuns;
-      sourceViews = length-laid (2 * sourcesUsed j) (concatMap (λ s. ulidWords (s .view)) (sourcesOf js)) (j .sourceViews) (omega (arith, a)) (omega (arith, a, length-words (λ (s : Source). ulidWords (s .view)) 2 (λ s. refl) (sourcesOf js))) ∙ a .sourceViews;
-    }
 
 -- ---- one remote job, its source entries lent as parts of the slices
 

@@ -1,5 +1,7 @@
-// slatedb's job rules over rows of lent tables: which remote records are adopted, and which jobs clash.
+// slatedb's job rules over rows of lent tables: adding, merging and retention.
+pub mod add;
 pub mod adding;
 pub mod adoption;
 pub mod merge;
 mod merging;
+pub mod retain;

@@ -106,7 +106,7 @@ fn counted(flag: u8, n: usize) -> usize
 }
 
 // How many of the first `n` jobs have a flag.
-fn flagged_jobs(flags: &[u8; 64], n: usize) -> usize
+pub fn flagged_jobs(flags: &[u8; 64], n: usize) -> usize
     requires { ⌜ n ≤ 64 ⌝ }
     ensures { λ r. ⌜ (r ≡ total (rowsFrom (λ k. cond (marked (getD (now (flags .entry)) k 0)) 1 0) 0 n)) × (r ≤ n) ⌝ }
 {
@@ -120,7 +120,7 @@ fn flagged_jobs(flags: &[u8; 64], n: usize) -> usize
 }
 
 // How many source entries these have.
-fn flagged_entries(flags: &[u8; 64], job_specs: &[u32], n: usize) -> usize
+pub fn flagged_entries(flags: &[u8; 64], job_specs: &[u32], n: usize) -> usize
     requires { ⌜ (n ≤ 64) × (3 * n ≤ length (now «job_specs»)) ⌝ }
     ensures { λ r. ⌜ (r ≡ total (rowsFrom (λ k. cond (marked (getD (now (flags .entry)) k 0)) (getD (now («job_specs» .entry)) (3 * k + 2) 0) 0) 0 n)) × (r ≤ 4294967295 * n) ⌝ }
 {
@@ -134,7 +134,7 @@ fn flagged_entries(flags: &[u8; 64], job_specs: &[u32], n: usize) -> usize
 }
 
 // 14: "the result exceeds 64 jobs, 1,024 entries"
-fn exceeds(jobs: usize, entries: usize) -> u32
+pub fn exceeds(jobs: usize, entries: usize) -> u32
     ensures { λ r. ⌜ r ≡ cond (ltb maxJobs jobs || ltb maxSources entries) 14 0 ⌝ }
 {
     if MAX_JOBS < jobs {

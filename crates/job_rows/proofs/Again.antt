@@ -7,10 +7,13 @@ use lib.ListN.{length, length-map}
 use Rattle.rules.specs.Lists.{concatMap}
 use Rattle.rules.specs.Tables.{Source, Job}
 use Rattle.rules.specs.Lent.{LentJobs, lentJobs, laid, layJobs, sourcesUsed, sourcesOf, ulidWords, jobMarkWords, jobSpecWords}
+use Rattle.rules.specs.Bounds.{maxJobs, maxSources}
+use Rattle.rules.proofs.Laid.{length-laid}
 use Rattle.rules.proofs.Rows.{length-words}
 use Rattle.rules.proofs.Packed.{length-sources}
 use Rattle.rules.proofs.ReadBack.{jobs-back}
 use Rattle.rows.proofs.Laying.{laid-again}
+use Rattle.job_rows.specs.Slices.{AtCapacity}
 
 -- two tables with the same count and slices are the same
 pub lent-eq : {a b : ℕ} {c d e f g h i k l m n o : List ℕ} → a ≡ b → c ≡ d → e ≡ f → g ≡ h → i ≡ k → l ≡ m → n ≡ o → lentJobs a c e g i l n ≡ lentJobs b d f h k m o
@@ -44,3 +47,17 @@ lay-again j js ks h l =
     (rw used (column (λ s. s .mark) (j .sourceMarks)))
     (rw used (column (λ s. s .run) (j .sourceRuns)))
     (rw used (rows-over (λ (s : Source). ulidWords (s .view)) 2 (λ s. refl) (sourcesUsed j) (sourcesOf js) (sourcesOf ks) (j .sourceViews) (omega arith)))
+
+-- a table with other jobs laid in it is at capacity where they fit
+pub lay-fits : (j : LentJobs) (js : List Job) → AtCapacity j → length js ≤ maxJobs → length (sourcesOf js) ≤ maxSources → AtCapacity (layJobs j js)
+unfolding layJobs
+lay-fits j js a h l = record {
+  jobs = h;
+  sources = omega (arith, sources-laid j js);
+  jobIds = length-laid (2 * j .count) (concatMap (λ x. ulidWords (x .id)) js) (j .jobIds) (omega (arith, a)) (omega (arith, a, length-words (λ (x : Job). ulidWords (x .id)) 2 (λ x. refl) js)) ∙ a .jobIds;
+  jobMarks = length-laid (2 * j .count) (concatMap jobMarkWords js) (j .jobMarks) (omega (arith, a)) (omega (arith, a, length-words jobMarkWords 2 (λ x. refl) js)) ∙ a .jobMarks;
+  jobSpecs = length-laid (3 * j .count) (concatMap jobSpecWords js) (j .jobSpecs) (omega (arith, a)) (omega (arith, a, length-words jobSpecWords 3 (λ x. refl) js)) ∙ a .jobSpecs;
+  sourceMarks = length-laid (sourcesUsed j) (map (λ s. s .mark) (sourcesOf js)) (j .sourceMarks) (omega (arith, a)) (omega (arith, a, length-map (sourcesOf js) (λ (s : Source). s .mark))) ∙ a .sourceMarks;
+  sourceRuns = length-laid (sourcesUsed j) (map (λ s. s .run) (sourcesOf js)) (j .sourceRuns) (omega (arith, a)) (omega (arith, a, length-map (sourcesOf js) (λ (s : Source). s .run))) ∙ a .sourceRuns;
+  sourceViews = length-laid (2 * sourcesUsed j) (concatMap (λ s. ulidWords (s .view)) (sourcesOf js)) (j .sourceViews) (omega (arith, a)) (omega (arith, a, length-words (λ (s : Source). ulidWords (s .view)) 2 (λ s. refl) (sourcesOf js))) ∙ a .sourceViews;
+}

@@ -2,17 +2,16 @@
 use Prim.Native.Nat.{ℕ, zero, suc, _+_, _*_, _≤_, suc-le-suc}
 use mathlib.Core.Path.{_≡_, refl, sym, ap, _∙_, fun-ext}
 use mathlib.Core.List.{List, [], _∷_, _++_}
-use mathlib.Core.Bool.{Bool, true, false, cond, not, Bool·not-not}
+use mathlib.Core.Bool.{Bool, true, false, cond, not, true≢false, Bool·not-not}
 use native.Mathlib.Omega.{arith}
-use lib.Dec.{eqb, ltb}
 use lib.ListN.{length, take, drop, length-append, take-append-drop}
 use lib.Seq.{take-at, drop-at}
-use borrow.Author.Tests.{ltb-true, ltb-false, eqb-false, lt-ltb, le-ltb, eq-eqb, ne-eqb}
 use Rattle.rules.specs.Lists.{any, leading, concatMap, total}
 use Rattle.rules.specs.Tables.{Ulid, sameUlid, ulidBelow, Job}
 use Rattle.rules.specs.Lent.{LentJobs, rowsFrom, ulidAt, sourceAt, sourceCount, jobAt, jobsFrom, jobsOf, sourcesOf}
 use Rattle.rules.specs.Jobs.{inserted}
-use Rattle.rules.proofs.Lookups.{or-left, or-right}
+use Rattle.rules.proofs.Lookups.{or-left, or-right, same-ulid, ulid-same}
+use Rattle.rules.proofs.Ulids.{below-trans, below-other, below-total}
 use Rattle.rules.proofs.Rows.{length-rowsFrom, concatMap-append}
 use Rattle.rules.proofs.Packed.{length-jobsOf}
 use Rattle.rows.proofs.Shapes.{ids-are}
@@ -32,28 +31,16 @@ module _ {A : Type 0} where
       go true h = suc-le-suc h
       go false h = omega arith
 
--- of two ids that are not the same one is below the other
+-- of two ids that are not the same exactly one is below the other
 below-turned : (a b : Ulid) → sameUlid a b ≡ false → ulidBelow b a ≡ not (ulidBelow a b)
-below-turned a b s = high (ltb (a .high) (b .high)) (ltb (b .high) (a .high)) refl refl
+below-turned a b s = go (ulidBelow a b) (ulidBelow b a) (sameUlid b a) refl refl refl
   where
-    low : (x y : Bool) → ltb (a .low) (b .low) ≡ x → eqb (a .low) (b .low) ≡ y → y ≡ false → ltb (b .low) (a .low) ≡ not (ltb (a .low) (b .low))
-    low true y e f g = rw (e, le-ltb (b .low) (a .low) (omega (arith, ltb-true (a .low) (b .low) e)))
-    low false y e f g =
-        let apart = eqb-false (a .low) (b .low) (f ∙ g) in
-        rw (e, lt-ltb (b .low) (a .low) (omega (arith, ltb-false (a .low) (b .low) e)))
-
-    high : (x y : Bool) → ltb (a .high) (b .high) ≡ x → ltb (b .high) (a .high) ≡ y → ulidBelow b a ≡ not (ulidBelow a b)
-    high true y e f =
-        let lt = ltb-true (a .high) (b .high) e in
-        rw (e, le-ltb (b .high) (a .high) (omega arith), ne-eqb (b .high) (a .high) (λ g. omega arith))
-    high false true e f =
-        let lt = ltb-true (b .high) (a .high) f in
-        rw (f, e, ne-eqb (a .high) (b .high) (λ g. omega arith))
-    high false false e f =
-        let up = ltb-false (a .high) (b .high) e in
-        let down = ltb-false (b .high) (a .high) f in
-        let same : a .high ≡ b .high = omega arith in
-        rw (e, f, eq-eqb (a .high) (b .high) same, eq-eqb (b .high) (a .high) (sym same)) (low (ltb (a .low) (b .low)) (eqb (a .low) (b .low)) refl refl (rw (eq-eqb (a .high) (b .high) same) at s))
+    go : (x y z : Bool) → ulidBelow a b ≡ x → ulidBelow b a ≡ y → sameUlid b a ≡ z → y ≡ not x
+    go true false z e f g = refl
+    go true true z e f g = absurd (true≢false (sym (ulid-same a a refl) ∙ below-other a a (below-trans a b a e f)))
+    go false true z e f g = refl
+    go false false true e f g = absurd (true≢false (sym (ulid-same a b (sym (same-ulid b a g))) ∙ s))
+    go false false false e f g = absurd (true≢false (sym (below-total b a g e) ∙ f))
 
 -- ---- a job whose id is not there
 
