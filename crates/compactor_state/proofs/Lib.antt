@@ -7,6 +7,6 @@ pub mod Flagged
 pub mod Plans
 pub mod Taking
 pub mod Answered
-pub mod MergeCall
 pub mod Retaining
 pub mod AddCall
+pub mod MergeCall

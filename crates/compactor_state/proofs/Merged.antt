@@ -42,7 +42,7 @@ turned a b h = go (sameUlid b a) refl
 
 -- ---- the next remote job r, whose id is below those of the jobs rs after it
 
-module _ (known : List Job) (r : Job) (rs : List Job) (up : allAbove (r .id) rs ≡ true) where
+module _ (r : Job) (rs : List Job) (up : allAbove (r .id) rs ≡ true) where
   absent : jobWith (r .id) rs ≡ none
   absent = first-none (λ (j : Job). sameUlid (j .id) (r .id)) rs (above-absent (r .id) rs up)
 
@@ -64,9 +64,9 @@ module _ (known : List Job) (r : Job) (rs : List Job) (up : allAbove (r .id) rs 
       go true e = rw (h, ulid-ids .turns (r .id) (l .id) e)
       go false e = rw (turned (r .id) (l .id) e)
 
-  -- the later ones are adopted as before
-  adopted-later : (s : Job) → ulidBelow (r .id) (s .id) ≡ true → adopted (inserted r known) s ≡ adopted known s
-  adopted-later s h = ap (λ (o : Option Job). adopts o s) (found-other r (s .id) known (turned (s .id) (r .id) (below-other (r .id) (s .id) h)))
+-- the later ones are adopted as before
+adopted-later : (known : List Job) (r s : Job) → ulidBelow (r .id) (s .id) ≡ true → adopted (inserted r known) s ≡ adopted known s
+adopted-later known r s h = ap (λ (o : Option Job). adopts o s) (found-other r (s .id) known (turned (s .id) (r .id) (below-other (r .id) (s .id) h)))
 
 -- the jobs that stay depend on what is taken of the remote ones only
 stays-same : (t p q : Job → Bool) (rs : List Job) → ((x : Job) → t x ≡ true → p x ≡ q x) → all t rs ≡ true → (l : Job) → stays p rs l ≡ stays q rs l
@@ -87,15 +87,15 @@ module _ (known : List Job) (r : Job) (rs : List Job) (h : rising known ≡ true
   -- the next remote job is left
   left-out : adopted known r ≡ false → Takes (merged known rs) (keep (stays (adopted known) rs) known) (keep (adopted known) rs)
       → Takes (merged known rs) (keep (stays (adopted known) (r ∷ rs)) known) (keep (adopted known) rs)
-  left-out e = subst (λ (K : List Job). Takes (merged known rs) K (keep (adopted known) rs)) (ap (λ (p : Job → Bool). keep p known) (sym (fun-ext (stays-untaken known r rs up (adopted known) e))))
+  left-out e = subst (λ (K : List Job). Takes (merged known rs) K (keep (adopted known) rs)) (ap (λ (p : Job → Bool). keep p known) (sym (fun-ext (stays-untaken r rs up (adopted known) e))))
 
   -- it is adopted
   taken : adopted known r ≡ true → Takes (merged (inserted r known) rs) (keep (stays (adopted (inserted r known)) rs) (inserted r known)) (keep (adopted (inserted r known)) rs)
       → Takes (merged (inserted r known) rs) (keep (stays (adopted known) (r ∷ rs)) known) (r ∷ keep (adopted known) rs)
   taken e t =
-      let later : (s : Job) → ulidBelow (r .id) (s .id) ≡ true → adopted (inserted r known) s ≡ adopted known s = adopted-later known r rs up in
-      let gone : (l : Job) → stays (adopted known) (r ∷ rs) l ≡ not (sameUlid (l .id) (r .id)) && stays (adopted known) rs l = stays-taken known r rs up (adopted known) e in
-      let mine : stays (adopted known) rs r ≡ true = ap (notTaken (adopted known)) (absent known r rs up) in
+      let later : (s : Job) → ulidBelow (r .id) (s .id) ≡ true → adopted (inserted r known) s ≡ adopted known s = adopted-later known r in
+      let gone : (l : Job) → stays (adopted known) (r ∷ rs) l ≡ not (sameUlid (l .id) (r .id)) && stays (adopted known) rs l = stays-taken r rs up (adopted known) e in
+      let mine : stays (adopted known) rs r ≡ true = ap (notTaken (adopted known)) (absent r rs up) in
       let jobs : keep (stays (adopted (inserted r known)) rs) (inserted r known) ≡ inserted r (keep (stays (adopted known) (r ∷ rs)) known) =
       ap (λ (p : Job → Bool). keep p (inserted r known)) (fun-ext (stays-same (λ s. ulidBelow (r .id) (s .id)) (adopted (inserted r known)) (adopted known) rs later up))
       ∙ keep-inserted r (stays (adopted known) rs) mine known h

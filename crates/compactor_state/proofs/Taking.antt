@@ -11,7 +11,7 @@ use lib.Seq.{getD-take, getD-drop, length-take-le}
 use borrow.Author.Tests.{not-true, ltb-false}
 use Rattle.rules.specs.Lists.{keep}
 use Rattle.rules.specs.Tables.{Job}
-use Rattle.rules.specs.Lent.{LentJobs, rowsFrom, sourceAt, sourceCount, sourcesUsed, jobAt, jobsFrom, jobsOf, sourcesOf, laid, layJobs}
+use Rattle.rules.specs.Lent.{LentJobs, rowsFrom, sourceAt, sourceCount, sourcesUsed, jobAt, jobsFrom, jobsOf, sourcesOf, layJobs}
 use Rattle.rules.specs.Bounds.{maxJobs, maxSources}
 use Rattle.rules.specs.Validation.{lentSources}
 use Rattle.rules.specs.Jobs.{jobOf, inserted, merged, tooMany}

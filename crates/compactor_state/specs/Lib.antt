@@ -2,6 +2,6 @@
 pub mod Clash
 pub mod Merge
 pub mod Taking
-pub mod Answers
 pub mod Retention
+pub mod Answers
 pub mod AddCall

@@ -1,4 +1,4 @@
-// slatedb's job rules over rows of lent tables: adding, merging, retention.
+// slatedb's job rules over rows of lent tables: adding, merging and retention.
 pub mod add;
 pub mod adding;
 pub mod adoption;
