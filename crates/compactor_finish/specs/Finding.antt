@@ -22,7 +22,7 @@ tablesRefusal t j = 1 given treesOutside t || jobsOutside j else 2 given treesMi
 
 -- ---- the job and its tree
 
--- job i, and tree i, as they stand among the others
+-- job i, its sources where they lie
 abbrev pub jobIn : LentJobs → ℕ → Job
 jobIn j i = jobAt j i (total (rowsFrom (sourceCount j) 0 i))
 
