@@ -15,7 +15,7 @@ use Rattle.rules.specs.Finish.{finishJobRefusal, drainJobRefusal}
 use Rattle.compactor_finish.specs.declared.finishing.Work.{Work}
 use Rattle.compactor_finish.specs.declared.finishing.Work.the-variants.{Refused, Missing, Found}
 
--- job i, and tree i, as they stand among the others
+-- job i, its sources where they lie
 abbrev pub jobIn : LentJobs → ℕ → Job
 jobIn j i = jobAt j i (total (rowsFrom (sourceCount j) 0 i))
 

@@ -6,7 +6,7 @@ use borrow.Author.Needs.{needs}
 use Rattle.compactor_finish.proofs.drain.drain.Statement.{statement}
 use Rattle.compactor_finish.proofs.drain.drain.Tie as tie
 
--- the tables as they are lent, and the id
+-- the tables as they are lent
 abbrev T : tie.Start → LentTrees
 T c =
     lentTrees
