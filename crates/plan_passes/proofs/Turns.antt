@@ -1,7 +1,7 @@
 -- Passes, one tree at a time, and planning, one pass at a time.
 use Prim.Native.Nat.{ℕ, zero, suc, _+_, _-_, _*_, _≤_, _<_}
 use mathlib.Core.Path.{_≡_, refl, sym, ap, _∙_}
-use mathlib.Core.List.{List, [], _∷_}
+use mathlib.Core.List.{List, []}
 use mathlib.Core.Logic.{_⊎_, ⊎-elim}
 use native.Mathlib.Nat.{sub-zero, not-suc-le-zero}
 use native.Mathlib.Numerals.{add-one}
@@ -12,6 +12,7 @@ use lib.Seq.{drop-cons}
 use Rattle.rules.specs.declared.Options.{Options}
 use Rattle.rules.specs.Tables.{Tree}
 use Rattle.rules.specs.Plan.{State, ask, pass, Plan, passesFrom}
+use Rattle.rules.proofs.Passes.{pass-stops}
 use Rattle.rules.proofs.Rows.{length-rowsFrom}
 use Rattle.plan_passes.specs.declared.ask.Asked.{Asked}
 use Rattle.tree_pick.specs.Asked.{AskedAt, specAt, picksOf, stateIn}
@@ -20,12 +21,6 @@ use Rattle.plan_passes.specs.Passes.{AskedAll, Plans}
 
 module _ (lim : ℕ → ℕ) (o : Options) where
   -- ---- a pass
-
-  -- no slot is left
-  pass-stops : (ts : List Tree) (st : State) → st .slots ≡ 0 → pass lim o ts st ≡ st
-  unfolding pass
-  pass-stops [] st e = refl
-  pass-stops (t ∷ ts) st e = rw (eq-eqb _ _ e)
 
   -- no tree is left
   pass-ends : (ts : List Tree) (i : ℕ) (st : State) → length ts ≤ i → pass lim o (drop i ts) st ≡ st
@@ -43,7 +38,7 @@ module _ (lim : ℕ → ℕ) (o : Options) where
     -- "Planning ends after a pass without a pick."
     last-pass : (n : ℕ) → st .slots ≤ n → length (st′ .specs) ≡ length (st .specs) → passesFrom lim o ts n done st ≡ record { specs = st′ .specs; passes = done }
     unfolding passesFrom
-    last-pass zero h g = rw (sym e ∙ pass-stops ts st (omega arith))
+    last-pass zero h g = rw (sym e ∙ pass-stops lim o ts st (omega arith))
     last-pass (suc n) h g = rw (e, eq-eqb _ _ g)
 
     next-pass : (n : ℕ) → 0 < n → (length (st′ .specs) ≡ length (st .specs) → ⊥) → passesFrom lim o ts n done st ≡ passesFrom lim o ts (n - 1) (done + 1) st′
