@@ -1,0 +1,117 @@
+//! Compares 01's seven calls as three judges do them: slatedb's own code, `plain`, and the library.
+mod damage;
+mod draw;
+mod judge;
+mod known;
+mod rng;
+mod small;
+mod tally;
+
+use std::process::ExitCode;
+use std::time::Instant;
+
+use judge::Verdict;
+use lent::Case;
+use tally::Tally;
+
+const USAGE: &str = "\
+oracle run CASES SEED   the small cases, all of them, then this many random ones
+oracle one CASES SEED   the random case of this number, written out";
+
+fn main() -> ExitCode {
+    // panics of slatedb's code are answers here, and there are many
+    let loud = std::panic::take_hook();
+    std::panic::set_hook(Box::new(move |panic| {
+        if !slatedb::is_asked() {
+            loud(panic);
+        }
+    }));
+    let words: Vec<String> = std::env::args().skip(1).collect();
+    let words: Vec<&str> = words.iter().map(String::as_str).collect();
+    let done = match words.as_slice() {
+        ["run", cases, seed] => number(cases).zip(number(seed)).map(|(c, s)| run(c, s)),
+        ["one", case, seed] => number(case).zip(number(seed)).map(|(c, s)| one(c, s)),
+        _ => None,
+    };
+    done.unwrap_or_else(|| {
+        println!("{USAGE}");
+        ExitCode::FAILURE
+    })
+}
+
+fn number(word: &str) -> Option<u64> {
+    word.replace(['_', ','], "").parse().ok()
+}
+
+/// Random case i of a seed. Each has a source of numbers of its own, so that it can be had by itself.
+fn random(i: u64, seed: u64) -> Case {
+    draw::case(&mut rng::Rng::new(
+        seed.wrapping_mul(0x2545_F491_4F6C_DD1D)
+            .wrapping_add(i << 20),
+    ))
+}
+
+fn run(cases: u64, seed: u64) -> ExitCode {
+    match slatedb::FOUND {
+        "" => println!("slatedb's code was absent when this was built: it is not compared"),
+        files => println!("slatedb 0.16.0: {files}"),
+    }
+    let start = Instant::now();
+    let mut tally = Tally::default();
+    small::all(&mut |case| take(&mut tally, &case, "small case"));
+    let small = tally.cases;
+    for i in 0..cases {
+        take(
+            &mut tally,
+            &random(i, seed),
+            &format!("random case {i} of seed {seed}"),
+        );
+    }
+    let complete = tally.print();
+    let seconds = start.elapsed().as_secs_f64();
+    println!(
+        "{} cases ({small} small ones and {cases} random ones of seed {seed}), {:.0} a second",
+        tally.cases,
+        tally.cases as f64 / seconds
+    );
+    println!(
+        "{} agree in every number, {} differ as known, {} unexplained",
+        tally.same,
+        tally.cases - tally.same - tally.unknown,
+        tally.unknown
+    );
+    if !complete {
+        println!("some count is zero: more cases are needed");
+    }
+    match tally.unknown == 0 && complete {
+        true => ExitCode::SUCCESS,
+        false => ExitCode::FAILURE,
+    }
+}
+
+fn take(tally: &mut Tally, case: &Case, name: &str) {
+    let judged = judge::judge(case);
+    if let Verdict::Unknown(what) = &judged.verdict {
+        if tally.unknown < 20 {
+            println!(
+                "UNEXPLAINED {name} ({}): plain {:?}, {what}",
+                case.kind().name(),
+                judged.answer
+            );
+        }
+    }
+    tally.count(case, &judged);
+}
+
+fn one(i: u64, seed: u64) -> ExitCode {
+    let case = random(i, seed);
+    let judged = judge::judge(&case);
+    println!("{case:?}\n{:?}", judged.answer);
+    match judged.verdict {
+        Verdict::Unknown(what) => {
+            println!("{what}");
+            ExitCode::FAILURE
+        }
+        _ => ExitCode::SUCCESS,
+    }
+}
