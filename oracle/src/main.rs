@@ -1,6 +1,7 @@
 //! Compares 01's seven calls as three judges do them: slatedb's own code, `plain`, and the library.
 mod damage;
 mod draw;
+mod figures;
 mod judge;
 mod known;
 mod rng;
@@ -60,6 +61,7 @@ fn run(cases: u64, seed: u64) -> ExitCode {
     let mut tally = Tally::default();
     small::all(&mut |case| take(&mut tally, &case, "small case"));
     let small = tally.cases;
+    let figures = hold_figures(&mut tally);
     for i in 0..cases {
         take(
             &mut tally,
@@ -83,10 +85,36 @@ fn run(cases: u64, seed: u64) -> ExitCode {
     if !complete {
         println!("some count is zero: more cases are needed");
     }
-    match tally.unknown == 0 && complete {
+    match tally.unknown == 0 && complete && figures {
         true => ExitCode::SUCCESS,
         false => ExitCode::FAILURE,
     }
+}
+
+/// 01's figures: what the judges agree on must be what 01 says. Answers whether it is.
+fn hold_figures(tally: &mut Tally) -> bool {
+    let mut held = true;
+    let figures = figures::all();
+    for figure in &figures {
+        take(tally, &figure.case, figure.name);
+        let judged = judge::judge(&figure.case);
+        if judged.answer != figure.answer || !figure.left.is_left_by(&judged.after, judged.answer) {
+            println!("FIGURE {}: {:?}", figure.name, judged.answer);
+            held = false;
+        }
+    }
+    let limits = figures::LIMITS.iter();
+    let wrong = limits.filter(|&&(size, threshold, limit)| plain::limit(size, threshold) != limit);
+    for (size, threshold, limit) in wrong {
+        println!("FIGURE limit({size}) at {threshold} is not {limit}");
+        held = false;
+    }
+    println!(
+        "01's figures: {} cases and {} limits",
+        figures.len(),
+        figures::LIMITS.len()
+    );
+    held
 }
 
 fn take(tally: &mut Tally, case: &Case, name: &str) {
