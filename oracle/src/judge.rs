@@ -63,7 +63,7 @@ fn verdict(case: &Case, answer: Answer, after: &Case) -> Verdict {
 fn ask_library(case: &Case, answer: Answer, after: &Case) -> Option<String> {
     let mut left = case.clone();
     let told = library::ask(&mut left)?;
-    if told != answer {
+    if told != Ok(answer) {
         return Some(format!("library: {told:?}"));
     }
     (left != *after).then(|| "library: the tables differ".to_string())

@@ -4,6 +4,8 @@ mod draw;
 mod figures;
 mod judge;
 mod known;
+#[cfg(feature = "library")]
+mod library;
 mod rng;
 mod small;
 mod tally;
@@ -57,6 +59,8 @@ fn run(cases: u64, seed: u64) -> ExitCode {
         "" => println!("slatedb's code was absent when this was built: it is not compared"),
         files => println!("slatedb 0.16.0: {files}"),
     }
+    #[cfg(feature = "library")]
+    println!("libfiervalun.a: {}", library::calls().join(", "));
     let start = Instant::now();
     let mut tally = Tally::default();
     small::all(&mut |case| take(&mut tally, &case, "small case"));
