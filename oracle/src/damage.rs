@@ -143,7 +143,7 @@ fn spec(rng: &mut Rng, s: &mut LoneSpec) {
     }
 }
 
-fn options(rng: &mut Rng, o: &mut Options) {
+pub fn options(rng: &mut Rng, o: &mut Options) {
     match rng.below(5) {
         0 => o.concurrent = rng.one_of(&[65, 100, u32::MAX]),
         1 => o.min = 0,

@@ -64,6 +64,18 @@ pub fn case(rng: &mut Rng) -> Case {
     case
 }
 
+/// A small case of this call, with whole tables and a plan that has all places.
+pub fn recordable(rng: &mut Rng, kind: Kind) -> Case {
+    let mut case = World::draw(rng, Scale::Tiny, kind).case(rng, kind);
+    if let Case::Plan { options, .. } = &mut case {
+        if rng.once_in(20) {
+            damage::options(rng, options);
+            options.concurrent = options.concurrent.min(JOBS as u32);
+        }
+    }
+    case
+}
+
 struct World {
     scale: Scale,
     trees: Vec<Tree>,

@@ -6,20 +6,24 @@ mod judge;
 mod known;
 #[cfg(feature = "library")]
 mod library;
+mod record;
 mod rng;
+mod shrink;
 mod small;
 mod tally;
+mod text;
 
 use std::process::ExitCode;
 use std::time::Instant;
 
 use judge::Verdict;
-use lent::Case;
+use lent::{refusals, Case};
 use tally::Tally;
 
 const USAGE: &str = "\
 oracle run CASES SEED   the small cases, all of them, then this many random ones
-oracle one CASES SEED   the random case of this number, written out";
+oracle record           recorded answers of slatedb's code, in text
+oracle replay FILE      recorded answers, held against the judges";
 
 fn main() -> ExitCode {
     // panics of slatedb's code are answers here, and there are many
@@ -33,7 +37,8 @@ fn main() -> ExitCode {
     let words: Vec<&str> = words.iter().map(String::as_str).collect();
     let done = match words.as_slice() {
         ["run", cases, seed] => number(cases).zip(number(seed)).map(|(c, s)| run(c, s)),
-        ["one", case, seed] => number(case).zip(number(seed)).map(|(c, s)| one(c, s)),
+        ["record"] => Some(ended(record::print())),
+        ["replay", file] => Some(ended(record::replay(file))),
         _ => None,
     };
     done.unwrap_or_else(|| {
@@ -121,29 +126,37 @@ fn hold_figures(tally: &mut Tally) -> bool {
     held
 }
 
+/// Judges a case and counts it. The first few of a call that nobody explains are written out, as small as they get.
 fn take(tally: &mut Tally, case: &Case, name: &str) {
     let judged = judge::judge(case);
-    if let Verdict::Unknown(what) = &judged.verdict {
-        if tally.unknown < 20 {
-            println!(
-                "UNEXPLAINED {name} ({}): plain {:?}, {what}",
-                case.kind().name(),
-                judged.answer
-            );
-        }
-    }
     tally.count(case, &judged);
+    let Verdict::Unknown(what) = &judged.verdict else {
+        return;
+    };
+    if !tally.is_new(case.kind()) {
+        return;
+    }
+    println!("UNEXPLAINED {name}: plain {:?}, {what}", judged.answer);
+    let unexplained = |case: &Case| matches!(judge::judge(case).verdict, Verdict::Unknown(_));
+    let small = shrink::smallest(case.clone(), unexplained);
+    if matches!(refusals::lacking(&small), Some(1 | 2)) {
+        println!("  damaged tables: {small:?}");
+        return;
+    }
+    let judged = judge::judge(&small);
+    let plain = text::answer(judged.answer, &judged.after);
+    println!("  smallest: {} = {plain}", text::case(&small));
+    if let Verdict::Unknown(what) = judged.verdict {
+        println!("  {what}");
+    }
 }
 
-fn one(i: u64, seed: u64) -> ExitCode {
-    let case = random(i, seed);
-    let judged = judge::judge(&case);
-    println!("{case:?}\n{:?}", judged.answer);
-    match judged.verdict {
-        Verdict::Unknown(what) => {
+fn ended(result: Result<(), String>) -> ExitCode {
+    match result {
+        Ok(()) => ExitCode::SUCCESS,
+        Err(what) => {
             println!("{what}");
             ExitCode::FAILURE
         }
-        _ => ExitCode::SUCCESS,
     }
 }

@@ -14,6 +14,7 @@ pub struct Tally {
     known: BTreeMap<&'static str, u64>,
     plans: BTreeMap<&'static str, u64>,
     pub unknown: u64,
+    unknown_by_call: BTreeMap<Kind, u64>,
 }
 
 const SEGMENT_MISSING: &str = "segment missing";
@@ -60,9 +61,19 @@ impl Tally {
         match &judged.verdict {
             Verdict::Same => self.same += 1,
             Verdict::Known(name) => *self.known.entry(name).or_default() += 1,
-            Verdict::Unknown(_) => self.unknown += 1,
+            Verdict::Unknown(_) => {
+                self.unknown += 1;
+                *self.unknown_by_call.entry(case.kind()).or_default() += 1;
+            }
         }
         self.count_plan(judged);
+    }
+
+    /// Whether few of this call were unexplained so far.
+    pub fn is_new(&self, kind: Kind) -> bool {
+        self.unknown_by_call
+            .get(&kind)
+            .is_some_and(|&count| count <= 3)
     }
 
     fn count_plan(&mut self, judged: &Judged) {
