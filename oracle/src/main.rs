@@ -13,6 +13,7 @@ mod small;
 mod tally;
 mod text;
 
+use std::collections::BTreeSet;
 use std::process::ExitCode;
 use std::time::Instant;
 
@@ -22,6 +23,7 @@ use tally::Tally;
 
 const USAGE: &str = "\
 oracle run CASES SEED   the small cases, all of them, then this many random ones
+oracle known CASES SEED the smallest input of each known difference met in them
 oracle record           recorded answers of slatedb's code, in text
 oracle replay FILE      recorded answers, held against the judges";
 
@@ -37,6 +39,7 @@ fn main() -> ExitCode {
     let words: Vec<&str> = words.iter().map(String::as_str).collect();
     let done = match words.as_slice() {
         ["run", cases, seed] => number(cases).zip(number(seed)).map(|(c, s)| run(c, s)),
+        ["known", cases, seed] => number(cases).zip(number(seed)).map(|(c, s)| known(c, s)),
         ["record"] => Some(ended(record::print())),
         ["replay", file] => Some(ended(record::replay(file))),
         _ => None,
@@ -149,6 +152,27 @@ fn take(tally: &mut Tally, case: &Case, name: &str) {
     if let Verdict::Unknown(what) = judged.verdict {
         println!("  {what}");
     }
+}
+
+/// The first case of each known difference, as small as it gets.
+fn known(cases: u64, seed: u64) -> ExitCode {
+    let mut met = BTreeSet::new();
+    for i in 0..cases {
+        let case = random(i, seed);
+        let Verdict::Known(name) = judge::judge(&case).verdict else {
+            continue;
+        };
+        if matches!(refusals::lacking(&case), Some(1 | 2)) || !met.insert(name) {
+            continue;
+        }
+        let is_it =
+            |case: &Case| matches!(judge::judge(case).verdict, Verdict::Known(n) if n == name);
+        let small = shrink::smallest(case, is_it);
+        let judged = judge::judge(&small);
+        let answer = text::answer(judged.answer, &judged.after);
+        println!("{name}\n  {} = {answer}", text::case(&small));
+    }
+    ExitCode::SUCCESS
 }
 
 fn ended(result: Result<(), String>) -> ExitCode {
