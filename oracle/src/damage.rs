@@ -66,8 +66,18 @@ fn copy<T: Copy>(slice: &mut [T], from: usize, to: usize) {
     }
 }
 
+/// How many rows are in use by one column of counts, at most `capacity`.
+fn used(counts: &[u32], column: usize, rows: usize, capacity: usize) -> usize {
+    let counts = counts.iter().skip(column).step_by(3).take(rows);
+    counts
+        .fold(0usize, |sum, &n| sum.saturating_add(n as usize))
+        .min(capacity)
+}
+
 fn tree_table(rng: &mut Rng, t: &mut Trees) {
     let tree = rng.below(t.count.min(32));
+    let l0 = used(&t.trees, 1, t.count, 512);
+    let runs = used(&t.trees, 2, t.count, 512);
     match rng.below(21) {
         0 => t.count = rng.one_of(&[0, 33, 34, 1 << 32, usize::MAX]),
         1 => set(&mut t.trees, 3 * tree + 1, rng.one_of(&[513, u32::MAX])),
@@ -86,19 +96,20 @@ fn tree_table(rng: &mut Rng, t: &mut Trees) {
         14 => set(&mut t.watermark_marks, 2 * tree, bad_mark(rng)),
         15 => set(&mut t.watermark_marks, 2 * tree + 1, bad_mark(rng)),
         16 => {
-            let (a, b) = (rng.below(6), rng.below(6));
+            let (a, b) = (rng.below(runs), rng.below(runs));
             if a.max(b) < t.run_ids.len() {
                 t.run_ids.swap(a, b);
             }
         }
-        17 => copy(&mut t.run_ids, rng.below(6), rng.below(6)),
+        // of another tree too, where the ids still fall in each
+        17 => copy(&mut t.run_ids, rng.below(runs), rng.below(runs)),
         18 => {
-            let (a, b) = (rng.below(6), rng.below(6));
+            let (a, b) = (rng.below(l0), rng.below(l0));
             copy(&mut t.l0_ids, 4 * a, 4 * b);
             copy(&mut t.l0_ids, 4 * a + 1, 4 * b + 1);
         }
-        19 => set(&mut t.run_sizes, rng.below(6), u64::MAX),
-        _ => set(&mut t.l0_sizes, rng.below(6), u64::MAX),
+        19 => set(&mut t.run_sizes, rng.below(runs), u64::MAX),
+        _ => set(&mut t.l0_sizes, rng.below(l0), u64::MAX),
     }
 }
 
@@ -123,7 +134,10 @@ fn job_table(rng: &mut Rng, j: &mut Jobs) {
         9 => set(&mut j.job_marks, 2 * job, rng.from_to(6, 255) as u8),
         10 => set(&mut j.job_marks, 2 * job + 1, bad_mark(rng)),
         11 => j.count = (j.count + 1).min(64),
-        _ => set(&mut j.sources.marks, rng.below(8), bad_mark(rng)),
+        _ => {
+            let entries = used(&j.job_specs, 2, j.count, 1024);
+            set(&mut j.sources.marks, rng.below(entries), bad_mark(rng));
+        }
     }
 }
 

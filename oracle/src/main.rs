@@ -88,12 +88,15 @@ fn run(cases: u64, seed: u64) -> ExitCode {
         tally.cases,
         tally.cases as f64 / seconds
     );
-    println!(
-        "{} agree in every number, {} differ as known, {} unexplained",
-        tally.same,
-        tally.cases - tally.same - tally.unknown,
-        tally.unknown
-    );
+    match slatedb::FOUND {
+        "" => println!("{} unexplained; slatedb's code took no part", tally.unknown),
+        _ => println!(
+            "{} agree in every number, {} differ as known, {} unexplained",
+            tally.same,
+            tally.cases - tally.same - tally.unknown,
+            tally.unknown
+        ),
+    }
     if !complete {
         println!("some count is zero: more cases are needed");
     }

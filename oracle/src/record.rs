@@ -48,16 +48,24 @@ fn line(case: &Case) -> Result<String, String> {
     let lent = text::case(case);
     let (case, _) = text::read(&format!("{lent} = "))
         .ok_or_else(|| format!("written, yet it cannot be read: {lent}"))?;
+    Ok(match told(&case)? {
+        (answer, None) => format!("{lent} = {answer}"),
+        (answer, Some(number)) => format!("{lent} = {answer} ~ {number}"),
+    })
+}
+
+/// The answer as text, and the number of the known difference, if it is one.
+fn told(case: &Case) -> Result<(String, Option<usize>), String> {
     let Judged {
         answer,
         after,
         verdict,
-    } = judge(&case);
+    } = judge(case);
     let answer = text::answer(answer, &after);
     match verdict {
-        Verdict::Same => Ok(format!("{lent} = {answer}")),
-        Verdict::Known(name) => Ok(format!("{lent} = {answer} ~ {}", number(name))),
-        Verdict::Unknown(what) => Err(format!("{lent}: {what}")),
+        Verdict::Same => Ok((answer, None)),
+        Verdict::Known(name) => Ok((answer, Some(number(name)))),
+        Verdict::Unknown(what) => Err(format!("{}: {what}", text::case(case))),
     }
 }
 
@@ -85,19 +93,20 @@ pub fn print() -> Result<(), String> {
     Ok(())
 }
 
-/// Puts every line of a file before the judges. The answers must be those recorded.
+/// Puts every line of a file before the judges. The answers must be those recorded, and so must the difference, if slatedb's
+/// code is there to differ.
 pub fn replay(file: &str) -> Result<(), String> {
     let recorded = std::fs::read_to_string(file).map_err(|error| error.to_string())?;
     let mut held = 0;
     for line in recorded.lines().filter(|line| !line.starts_with('#')) {
         let (case, answer) = text::read(line).ok_or_else(|| format!("cannot be read: {line}"))?;
-        let judged = judge(&case);
-        let told = text::answer(judged.answer, &judged.after);
-        if answer.split(" ~ ").next() != Some(&told) {
-            return Err(format!("{line}\n  now: {told}"));
-        }
-        if let Verdict::Unknown(what) = judged.verdict {
-            return Err(format!("{line}\n  {what}"));
+        let (told, difference) = told(&case)?;
+        let (answer, recorded) = match answer.split_once(" ~ ") {
+            Some((answer, number)) => (answer, number.parse().ok()),
+            None => (answer, None),
+        };
+        if answer != told || (recorded != difference && !slatedb::FOUND.is_empty()) {
+            return Err(format!("{line}\n  now: {told}, difference {difference:?}"));
         }
         held += 1;
     }

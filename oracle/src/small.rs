@@ -14,6 +14,8 @@ pub fn all(visit: &mut dyn FnMut(Case)) {
     merges(visit);
     retentions(visit);
     finishes(visit);
+    shapes_of_trees(visit);
+    shapes_of_jobs(visit);
 }
 
 /// All lists of up to `most` items.
@@ -116,10 +118,10 @@ fn plans_of_one_tree(visit: &mut dyn FnMut(Case)) {
 /// Two trees of up to two rows each, every number of slots, a job that blocks one tree, the other, or neither.
 fn plans_of_two_trees(visit: &mut dyn FnMut(Case)) {
     let run = |id| Run { id, size: 10 };
-    for (l0, runs, other_l0, other_runs) in lists(&[0, 1, 2], 4)
-        .into_iter()
-        .filter_map(|n| Some((*n.first()?, *n.get(1)?, *n.get(2)?, *n.get(3)?)))
-    {
+    for counts in lists(&[0, 1, 2], 4) {
+        let [l0, runs, other_l0, other_runs] = counts[..] else {
+            continue;
+        };
         let trees = [
             tree(
                 0,
@@ -324,6 +326,67 @@ fn finishes(visit: &mut dyn FnMut(Case)) {
                             id: (0, 1),
                         });
                     }
+                }
+            }
+        }
+    }
+}
+
+/// Two trees with every choice of prefixes, run ids (two and one), L0 ids (one and one) and watermark marks: what refusal 2
+/// speaks of, good and bad.
+fn shapes_of_trees(visit: &mut dyn FnMut(Case)) {
+    let job = tiered((0, 0), 0, 0, &[Source::run(1)], 1);
+    let of_length = |items: &[u32], length| {
+        let all = lists(items, length).into_iter();
+        all.filter(move |list| list.len() == length)
+    };
+    for prefixes in of_length(&[0, 7], 2) {
+        for ids in of_length(&[1, 2, 3], 3) {
+            let run = |&id: &u32| Run { id, size: 1 };
+            for l0 in of_length(&[1, 2], 2) {
+                for marks in of_length(&[0, 1, 2], 2) {
+                    let root_runs = ids[..2].iter().map(run).collect();
+                    let other_runs = ids[2..].iter().map(run).collect();
+                    let mut root = tree(prefixes[0], &[l0[0].into()], root_runs);
+                    let mut other = tree(prefixes[1], &[l0[1].into()], other_runs);
+                    root.watermark.sst_mark = marks[0] as u8;
+                    other.watermark.view_mark = marks[1] as u8;
+                    visit(Case::Validate {
+                        trees: Trees::holding(&[root, other], UNUSED[1]),
+                        spec: LoneSpec::of(&job),
+                    });
+                }
+            }
+        }
+    }
+}
+
+/// Two jobs with every order of ids, and marks and statuses up to one too many; and such a job to be added.
+fn shapes_of_jobs(visit: &mut dyn FnMut(Case)) {
+    for first in 1..=3 {
+        for status in 0..=6 {
+            for drain in 0..=2 {
+                for mark in 0..=2 {
+                    let source = Source {
+                        mark,
+                        ..Source::run(9)
+                    };
+                    let job = Job {
+                        drain,
+                        ..tiered((0, 2), status, 0, &[source], 5)
+                    };
+                    let other = tiered((0, first), 4, 0, &[Source::run(1)], 6);
+                    visit(Case::Retain {
+                        jobs: Jobs::holding(&[other.clone(), job.clone()], UNUSED[1]),
+                    });
+                    visit(Case::Add {
+                        jobs: Jobs::holding(&[other], UNUSED[1]),
+                        job: LoneJob::of(&job),
+                    });
+                    visit(Case::Merge {
+                        local: Jobs::unused(UNUSED[1]),
+                        remote: Jobs::holding(&[job], UNUSED[1]),
+                    });
                 }
             }
         }
