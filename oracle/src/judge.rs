@@ -42,9 +42,12 @@ fn verdict(case: &Case, answer: Answer, after: &Case) -> Verdict {
         return Verdict::Unknown(difference);
     }
     if let Some(number) = refusals::lacking(case) {
-        return match answer == Answer::Refused(number) {
-            true => Verdict::Known(known::lacking(case, number)),
-            false => Verdict::Unknown(format!("the tables are refused {number}")),
+        if answer != Answer::Refused(number) {
+            return Verdict::Unknown(format!("the tables are refused {number}"));
+        }
+        return match known::lacking(case, number) {
+            Some(name) => Verdict::Known(name),
+            None => Verdict::Unknown("slatedb: a panic without a name".to_string()),
         };
     }
     let mut left = case.clone();

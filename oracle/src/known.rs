@@ -5,7 +5,7 @@ use slatedb::Told;
 pub const NO_BOUNDS: &str = "1: the Rust has no such tables";
 pub const NO_SHAPES: &str = "2: the Rust has no such tables";
 pub const OPTIONS_PLAN: &str = "3: the Rust plans";
-pub const OPTIONS_PANIC: &str = "3: the Rust panics (no source left)";
+pub const OPTIONS_PANIC: &str = "3: the Rust panics (no source left, or a sum overflows)";
 pub const SIZES_PLAN: &str = "4: the Rust sums only what it takes";
 pub const SIZES_PANIC: &str = "4: the Rust's sum overflows";
 pub const NO_PLACES: &str = "5: the Rust plans";
@@ -38,19 +38,23 @@ pub const NAMES: [&str; 16] = [
     TOP_RUN,
 ];
 
-/// What slatedb's code does where the tables or options by themselves are refused.
-pub fn lacking(case: &Case, number: u32) -> &'static str {
+/// What slatedb's code does where the tables or options by themselves are refused, if that has a name.
+pub fn lacking(case: &Case, number: u32) -> Option<&'static str> {
     match number {
-        1 => return NO_BOUNDS,
-        2 => return NO_SHAPES,
-        5 => return NO_PLACES,
+        1 => return Some(NO_BOUNDS),
+        2 => return Some(NO_SHAPES),
         _ => {}
     }
-    match (number, slatedb::ask(&mut case.clone())) {
-        (3, Told::Panicked(_)) => OPTIONS_PANIC,
-        (3, _) => OPTIONS_PLAN,
-        (_, Told::Panicked(_)) => SIZES_PANIC,
-        (_, _) => SIZES_PLAN,
+    let told = slatedb::ask(&mut case.clone());
+    match (number, &told) {
+        (3, Told::Panicked(text)) if is_no_source_left(text) || is_overflow(text) => {
+            Some(OPTIONS_PANIC)
+        }
+        (4, Told::Panicked(text)) if is_overflow(text) => Some(SIZES_PANIC),
+        (_, Told::Panicked(_)) => None,
+        (3, _) => Some(OPTIONS_PLAN),
+        (4, _) => Some(SIZES_PLAN),
+        _ => Some(NO_PLACES),
     }
 }
 
@@ -94,6 +98,14 @@ pub fn difference(case: &Case, told: &Told, answer: Answer, after: &Case) -> Opt
         _ => return None,
     };
     Some(name)
+}
+
+fn is_no_source_left(text: &str) -> bool {
+    text == "expected non-empty compactable run"
+}
+
+fn is_overflow(text: &str) -> bool {
+    text == "attempt to add with overflow"
 }
 
 fn is_order_assert(text: &str) -> bool {
