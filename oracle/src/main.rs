@@ -1,4 +1,6 @@
 //! Compares 01's seven calls as three judges do them: slatedb's own code, `plain`, and the library.
+#[cfg(feature = "library")]
+mod bench;
 mod damage;
 mod draw;
 mod figures;
@@ -25,7 +27,8 @@ const USAGE: &str = "\
 oracle run CASES SEED   the small cases, all of them, then this many random ones
 oracle known CASES SEED the smallest input of each known difference met in them
 oracle record           recorded answers of slatedb's code, in text
-oracle replay FILE      recorded answers, held against the judges";
+oracle replay FILE      recorded answers, held against the judges
+oracle bench            the library, plain and slatedb's code timed on the same tables (feature library)";
 
 fn main() -> ExitCode {
     // panics of slatedb's code are answers here, and there are many
@@ -42,6 +45,8 @@ fn main() -> ExitCode {
         ["known", cases, seed] => number(cases).zip(number(seed)).map(|(c, s)| known(c, s)),
         ["record"] => Some(ended(record::print())),
         ["replay", file] => Some(ended(record::replay(file))),
+        #[cfg(feature = "library")]
+        ["bench"] => Some(ended(bench::print())),
         _ => None,
     };
     done.unwrap_or_else(|| {

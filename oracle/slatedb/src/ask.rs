@@ -1,7 +1,9 @@
 //! The seven calls through slatedb's code. Only for tables that `lent::refusals` does not refuse, or planning ones that it
 //! refuses 3, 4 or 5.
+use std::hint::black_box;
 use std::panic::{catch_unwind, AssertUnwindSafe};
 use std::sync::atomic::{AtomicBool, Ordering};
+use std::time::{Duration, Instant};
 
 use lent::{Answer, Case, Job, Jobs, Options, Plan, Run, Source, Tree, Trees, JOBS, RUNS, SOURCES};
 
@@ -193,4 +195,28 @@ fn assert_untouched(state: &CompactorState, trees: &[Tree], jobs: &[Job]) {
         .collect();
     assert_eq!(rows, jobs, "no such job, yet the jobs changed");
     assert_eq!(encode::trees(state.db_state(), trees, None), trees);
+}
+
+/// The least time of one planning call of several, the tables being slatedb's own types before the clock starts. Nothing
+/// for the other calls.
+pub fn time_plan(case: &Case) -> Option<Duration> {
+    let Case::Plan {
+        trees,
+        jobs,
+        options,
+        ..
+    } = case
+    else {
+        return None;
+    };
+    let scheduler = decode::scheduler(options);
+    let view = decode::view(&trees.rows(), &jobs.rows());
+    let begin = Instant::now();
+    let mut least = Duration::MAX;
+    while begin.elapsed() < Duration::from_millis(400) {
+        let start = Instant::now();
+        black_box(scheduler.propose(black_box(&view)));
+        least = least.min(start.elapsed());
+    }
+    Some(least)
 }

@@ -62,7 +62,7 @@ pub enum Told {
 }
 
 #[cfg(source)]
-pub use ask::{ask, is_asked};
+pub use ask::{ask, is_asked, time_plan};
 
 #[cfg(not(source))]
 pub fn ask(_case: &mut lent::Case) -> Told {
@@ -72,4 +72,9 @@ pub fn ask(_case: &mut lent::Case) -> Told {
 #[cfg(not(source))]
 pub fn is_asked() -> bool {
     false
+}
+
+#[cfg(not(source))]
+pub fn time_plan(_case: &lent::Case) -> Option<std::time::Duration> {
+    None
 }
