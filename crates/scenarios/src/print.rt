@@ -1,0 +1,30 @@
+// What the scenarios print.
+use libc::STDOUT_FILENO;
+
+pub fn text(s: &[u8]) {
+    io::write_all(STDOUT_FILENO, s);
+}
+
+pub fn number(n: u64) {
+    io::print_decimal(STDOUT_FILENO, n);
+}
+
+// A prefix, a run or a refusal.
+pub fn id(n: u32) {
+    number(n as u64);
+}
+
+// A call, and what 01 says that it answers; what came follows.
+pub fn call(said: &[u8], expected: &[u8]) {
+    text(said);
+    text(b": expected ");
+    text(expected);
+    text(b", got ");
+}
+
+// What 01 says of a row; what came follows on the next line, below it.
+pub fn row(expected: &[u8]) {
+    text(b"  expected ");
+    text(expected);
+    text(b"\n  got      ");
+}
