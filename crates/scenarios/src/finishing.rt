@@ -6,6 +6,7 @@ use crate::job_calls::no_jobs;
 use crate::job_text::show_answer;
 use crate::job_text::show_job;
 use crate::print::call;
+use crate::print::heading;
 use crate::print::number;
 use crate::print::text;
 use crate::tree_calls::Plan;
@@ -174,7 +175,10 @@ fn finish_again(tables: Tables) {
 
 // "Finishing 12 11 to 11: runs 11.", by itself.
 fn finish_runs_first(trees: Trees, jobs: Jobs) {
-    call(b"finish 3 before the others", b"committed");
+    call(
+        b"finish 3 before the others with output 11 of size 200",
+        b"committed",
+    );
     let after = finish_job(Tables { trees, jobs }, 3, 11, 200);
     show_after(
         b"prefix 0, L0 1 (1) 2 (1) 3 (1) 4 (1); runs 11 (200); watermark none",
@@ -186,6 +190,7 @@ fn finish_runs_first(trees: Trees, jobs: Jobs) {
 }
 
 pub fn finishing() {
+    heading(b"The cabinet, planned and finished, sizes in brackets");
     let trees = cabinet();
     let plan = plan_trees(trees);
     show_plan(plan);

@@ -7,6 +7,7 @@ use crate::job_text::show_answer;
 use crate::job_text::show_counts;
 use crate::job_text::show_job;
 use crate::print::call;
+use crate::print::heading;
 use std::num::wrapping_add_u32;
 
 // The run at place k of sixteen that go down to `low`.
@@ -55,13 +56,9 @@ fn wide(n: u32) -> u64 {
 // The counts, the first job and the last, which a refusal leaves as they are.
 fn show_full(jobs: Jobs) {
     show_counts(b"64 jobs, 1024 entries", jobs);
+    show_job(b"1 Submitted: prefix 0, 16 sources 16 .. 1 to 1", jobs, 0);
     show_job(
-        b"1 Submitted: prefix 0, 16 sources from 16 down to 1 to 1",
-        jobs,
-        0,
-    );
-    show_job(
-        b"64 Submitted: prefix 0, 16 sources from 1024 down to 1009 to 1009",
+        b"64 Submitted: prefix 0, 16 sources 1024 .. 1009 to 1009",
         jobs,
         63,
     );
@@ -105,13 +102,14 @@ fn as_many_entries(jobs: Jobs) {
     show_answer(after);
     show_counts(b"64 jobs, 1024 entries", after);
     show_job(
-        b"64 Submitted: prefix 0, 16 sources from 2015 down to 2000 to 2000",
+        b"64 Submitted: prefix 0, 16 sources 2015 .. 2000 to 2000",
         after,
         63,
     );
 }
 
 pub fn full_tables() {
+    heading(b"Full job tables");
     let jobs = sixty_four();
     call(b"add 64 jobs of 16 entries each", b"64 jobs");
     show_answer(jobs);

@@ -62,9 +62,9 @@ fn show_sources(marks: &[u8; 1024], runs: &[u32; 1024], views: &[u64; 2048], at:
     if n > 4 {
         text(b" ");
         number(n as u64);
-        text(b" sources from");
+        text(b" sources");
         show_source(marks, runs, views, at);
-        text(b" down to");
+        text(b" ..");
         show_source(marks, runs, views, at + n - 1);
         return;
     }

@@ -7,6 +7,7 @@ use crate::job_calls::retain_jobs;
 use crate::job_text::show_answer;
 use crate::job_text::show_job;
 use crate::print::call;
+use crate::print::heading;
 
 fn two_jobs() -> Jobs {
     call(b"add 1 Submitted: prefix 0, 12 11 to 11", b"1 job");
@@ -69,6 +70,13 @@ fn drains(jobs: Jobs) -> Jobs {
     call(b"add 4 Submitted: prefix 8, 5 drained", b"refused 10");
     let second = add_job(first, 4, 0, 1, 8, 0, &[1], &[5], &[0; 2]);
     show_answer(second);
+    show_job(b"1 Submitted: prefix 7, 10 9 to 9", second, 0);
+    show_job(
+        b"2 Submitted: prefix 0, view 2 view 3 view 4 to 13",
+        second,
+        1,
+    );
+    show_job(b"3 Submitted: prefix 8, 6 drained", second, 2);
     second
 }
 
@@ -124,6 +132,7 @@ fn retained(jobs: Jobs) {
 }
 
 pub fn adding_and_merging() {
+    heading(b"Jobs: adding, merging and retention");
     let added = drains(destination_taken(replaced(two_jobs())));
     let remote = remote_jobs();
     show_remote(remote);

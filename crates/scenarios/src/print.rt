@@ -14,6 +14,13 @@ pub fn id(n: u32) {
     number(n as u64);
 }
 
+// What the lines below are about.
+pub fn heading(s: &[u8]) {
+    text(b"== ");
+    text(s);
+    text(b"\n");
+}
+
 // A call, and what 01 says that it answers; what came follows.
 pub fn call(said: &[u8], expected: &[u8]) {
     text(said);

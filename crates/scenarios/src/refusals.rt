@@ -4,12 +4,13 @@ use crate::job_calls::add_job;
 use crate::job_calls::no_jobs;
 use crate::job_text::show_job;
 use crate::print::call;
+use crate::print::heading;
 use crate::tree_calls::Tables;
 use crate::tree_calls::Trees;
 use crate::tree_calls::cabinet;
 use crate::tree_calls::drain_job;
 use crate::tree_calls::finish_job;
-use crate::tree_calls::root_runs;
+use crate::tree_calls::root;
 use crate::tree_text::show_tree;
 
 // "Runs 12, 11, job 11 to 11 with output 12: refused 13."
@@ -20,7 +21,7 @@ fn output_out_of_order() {
     let mut run_sizes = [0; 512];
     run_sizes[0] = 100;
     run_sizes[1] = 100;
-    let trees = root_runs(2, run_ids, run_sizes);
+    let trees = root(0, 2, run_ids, run_sizes);
     let jobs = add_job(no_jobs(), 1, 0, 0, 0, 11, &[1], &[11], &[0; 2]);
     call(
         b"runs 12, 11: finish 11 to 11 with output 12",
@@ -144,7 +145,7 @@ fn drained(tables: Tables) {
     );
 }
 
-// Runs 512 to 1 of size 1 in the root.
+// View 1 and the runs 512 to 1, of size 1, in the root.
 fn full_runs() -> Trees {
     let mut run_ids = [0; 512];
     let mut run: u32 = 512;
@@ -154,7 +155,7 @@ fn full_runs() -> Trees {
         run -= 1;
         i += 1;
     }
-    root_runs(512, run_ids, [1; 512])
+    root(1, 512, run_ids, [1; 512])
 }
 
 // "the result exceeds .. 512 runs": a view's job brings a run more, a run's job does not.
@@ -162,25 +163,28 @@ fn one_run_more() {
     let trees = full_runs();
     let views = add_job(no_jobs(), 1, 0, 0, 0, 513, &[0], &[0], &[0, 1]);
     let jobs = add_job(views, 2, 0, 0, 0, 512, &[1], &[512], &[0; 2]);
-    call(b"512 runs: finish a view to 513", b"refused 14");
+    call(b"512 runs: finish view 1 to 513", b"refused 14");
     let refused = finish_job(Tables { trees, jobs }, 1, 513, 1);
     let full = refused.trees;
+    let unfinished = refused.jobs;
     show_tree(
-        b"prefix 0, L0 none; runs 512 from 512 (1) down to 1 (1); watermark none",
+        b"prefix 0, L0 1 (1); runs 512 (1) .. 1 (1), 512 in all; watermark none",
         full,
         0,
     );
+    show_job(b"1 Submitted: prefix 0, view 1 to 513", unfinished, 0);
     call(b"512 runs: finish 512 to 512", b"committed");
     let committed = finish_job(refused, 2, 512, 9);
     let same = committed.trees;
     show_tree(
-        b"prefix 0, L0 none; runs 512 from 512 (9) down to 1 (1); watermark none",
+        b"prefix 0, L0 1 (1); runs 512 (9) .. 1 (1), 512 in all; watermark none",
         same,
         0,
     );
 }
 
 pub fn refusals() {
+    heading(b"Finish and drain: refusals, a missing segment, a drain");
     output_out_of_order();
     let jobs = four_jobs();
     let after = refused_finishes(Tables {

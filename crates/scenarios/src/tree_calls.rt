@@ -35,17 +35,23 @@ pub struct Plan {
     pub views: [u64; 2048],
 }
 
-// Trees with runs alone, so many in the root.
-pub fn root_runs(n: u32, run_ids: [u32; 512], run_sizes: [u64; 512]) -> Trees {
+// A root alone, with view 1 or, where `views` is 0, without.
+pub fn root(views: u32, runs: u32, run_ids: [u32; 512], run_sizes: [u64; 512]) -> Trees {
     let mut rows = [0; 96];
-    rows[2] = n;
+    rows[1] = views;
+    rows[2] = runs;
+    let mut l0_ids = [0; 2048];
+    l0_ids[1] = 1;
+    l0_ids[3] = 21;
+    let mut l0_sizes = [0; 512];
+    l0_sizes[0] = 1;
     Trees {
         count: 1,
         rows,
         watermark_marks: [0; 64],
         watermarks: [0; 128],
-        l0_ids: [0; 2048],
-        l0_sizes: [0; 512],
+        l0_ids,
+        l0_sizes,
         run_ids,
         run_sizes,
     }

@@ -59,12 +59,12 @@ fn show_runs(ids: &[u32; 512], sizes: &[u64; 512], at: usize, n: usize) {
         text(b" none");
     }
     if n > 4 {
-        text(b" ");
-        number(n as u64);
-        text(b" from");
         show_run(ids, sizes, at);
-        text(b" down to");
+        text(b" ..");
         show_run(ids, sizes, at + n - 1);
+        text(b", ");
+        number(n as u64);
+        text(b" in all");
         return;
     }
     for i in at..at + n {

@@ -33,8 +33,8 @@ loop-less c = search needs
 loop-again : tie.Need-loop-again Inv-loop μ-loop
 loop-again c = search needs
 
-root-runs-requires : tie.Need-root-runs-requires Inv-loop μ-loop
-root-runs-requires c κs = search needs
+root-requires : tie.Need-root-requires Inv-loop μ-loop
+root-requires c κs = search needs
 
 returns : tie.Need-returns Inv-loop μ-loop
 returns c = search needs
@@ -52,5 +52,5 @@ full-runs-spec =
     add-i
     loop-less
     loop-again
-    root-runs-requires
+    root-requires
     returns)

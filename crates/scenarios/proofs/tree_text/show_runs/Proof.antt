@@ -22,29 +22,14 @@ slice-aggregate-text c = search needs
 text-requires : tie.Need-text-requires Inv-loop μ-loop
 text-requires c κs = search needs
 
+show-run-requires : tie.Need-show-run-requires Inv-loop μ-loop
+show-run-requires c κs = search needs
+
 slice-aggregate-text-2 : tie.Need-slice-aggregate-text-2 Inv-loop μ-loop
 slice-aggregate-text-2 c = search needs
 
 text-requires-2 : tie.Need-text-requires-2 Inv-loop μ-loop
 text-requires-2 c κs = search needs
-
-number-requires : tie.Need-number-requires Inv-loop μ-loop
-number-requires c κs = search needs
-
-slice-aggregate-text-3 : tie.Need-slice-aggregate-text-3 Inv-loop μ-loop
-slice-aggregate-text-3 c = search needs
-
-text-requires-3 : tie.Need-text-requires-3 Inv-loop μ-loop
-text-requires-3 c κs = search needs
-
-show-run-requires : tie.Need-show-run-requires Inv-loop μ-loop
-show-run-requires c κs = search needs
-
-slice-aggregate-text-4 : tie.Need-slice-aggregate-text-4 Inv-loop μ-loop
-slice-aggregate-text-4 c = search needs
-
-text-requires-4 : tie.Need-text-requires-4 Inv-loop μ-loop
-text-requires-4 c κs = search needs
 
 add-show-run : tie.Need-add-show-run Inv-loop μ-loop
 add-show-run c = search needs
@@ -54,6 +39,21 @@ sub-show-run c = search needs
 
 show-run-requires-2 : tie.Need-show-run-requires-2 Inv-loop μ-loop
 show-run-requires-2 c κs = search needs
+
+slice-aggregate-text-3 : tie.Need-slice-aggregate-text-3 Inv-loop μ-loop
+slice-aggregate-text-3 c = search needs
+
+text-requires-3 : tie.Need-text-requires-3 Inv-loop μ-loop
+text-requires-3 c κs = search needs
+
+number-requires : tie.Need-number-requires Inv-loop μ-loop
+number-requires c κs = search needs
+
+slice-aggregate-text-4 : tie.Need-slice-aggregate-text-4 Inv-loop μ-loop
+slice-aggregate-text-4 c = search needs
+
+text-requires-4 : tie.Need-text-requires-4 Inv-loop μ-loop
+text-requires-4 c κs = search needs
 
 returns-3 : tie.Need-returns-3 Inv-loop μ-loop
 returns-3 c = search needs
@@ -89,17 +89,17 @@ show-runs-spec =
     returns-2
     slice-aggregate-text
     text-requires
+    show-run-requires
     slice-aggregate-text-2
     text-requires-2
-    number-requires
-    slice-aggregate-text-3
-    text-requires-3
-    show-run-requires
-    slice-aggregate-text-4
-    text-requires-4
     add-show-run
     sub-show-run
     show-run-requires-2
+    slice-aggregate-text-3
+    text-requires-3
+    number-requires
+    slice-aggregate-text-4
+    text-requires-4
     returns-3
     add-i-end
     loop-holds
