@@ -64,16 +64,18 @@ pub fn case(rng: &mut Rng) -> Case {
     case
 }
 
-/// A small case of this call, with whole tables and a plan that has all places.
+/// A small case of this call, damaged once in a while.
 pub fn recordable(rng: &mut Rng, kind: Kind) -> Case {
     let mut case = World::draw(rng, Scale::Tiny, kind).case(rng, kind);
-    if let Case::Plan { options, .. } = &mut case {
-        if rng.once_in(20) {
-            damage::options(rng, options);
-            options.concurrent = options.concurrent.min(JOBS as u32);
-        }
+    if rng.once_in(6) {
+        damage::one(rng, &mut case);
     }
     case
+}
+
+/// A case of this call with full tables.
+pub fn full(rng: &mut Rng, kind: Kind) -> Case {
+    World::draw(rng, Scale::Full, kind).case(rng, kind)
 }
 
 struct World {

@@ -4,11 +4,13 @@ mod bench;
 mod damage;
 mod draw;
 mod figures;
+mod flat;
 mod judge;
 mod known;
 #[cfg(feature = "library")]
 mod library;
 mod record;
+mod replay;
 mod rng;
 mod shrink;
 mod small;
@@ -26,8 +28,9 @@ use tally::Tally;
 const USAGE: &str = "\
 oracle run CASES SEED   the small cases, all of them, then this many random ones
 oracle known CASES SEED the smallest input of each known difference met in them
-oracle record           recorded answers of slatedb's code, in text
-oracle replay FILE      recorded answers, held against the judges
+oracle record           recorded answers of slatedb's code, for crates/recorded
+oracle recorded FILE    whether the file holds what `record` prints
+oracle replay FILE      answers written down as text, held against the judges
 oracle bench            the library, plain and slatedb's code timed on the same tables (feature library)";
 
 fn main() -> ExitCode {
@@ -44,7 +47,8 @@ fn main() -> ExitCode {
         ["run", cases, seed] => number(cases).zip(number(seed)).map(|(c, s)| run(c, s)),
         ["known", cases, seed] => number(cases).zip(number(seed)).map(|(c, s)| known(c, s)),
         ["record"] => Some(ended(record::print())),
-        ["replay", file] => Some(ended(record::replay(file))),
+        ["recorded", file] => Some(ended(record::check(file))),
+        ["replay", file] => Some(ended(replay::replay(file))),
         #[cfg(feature = "library")]
         ["bench"] => Some(ended(bench::print())),
         _ => None,

@@ -1,115 +1,161 @@
-//! Recorded answers: a fixed list of cases with what slatedb's code answers, for programs that cannot ask it themselves.
-use std::collections::BTreeSet;
+//! Recorded answers: a fixed list of cases with what slatedb's code answers, for a program that cannot ask it itself.
+use std::collections::{BTreeMap, BTreeSet};
 
 use lent::{Answer, Case, Kind};
 
 use crate::judge::{judge, Judged, Verdict};
-use crate::{draw, figures, known, rng, text};
+use crate::{draw, figures, flat, rng};
 
-/// How many random cases of each call there are.
-const COUNTS: [(Kind, usize); 7] = [
-    (Kind::Plan, 700),
-    (Kind::Validate, 300),
-    (Kind::Add, 250),
-    (Kind::Merge, 200),
-    (Kind::Retain, 50),
-    (Kind::Finish, 350),
-    (Kind::Drain, 150),
+/// How many cases of a call that are answered are recorded at most, and how long their lines may be.
+const ANSWERED: [(Kind, usize, usize); 7] = [
+    (Kind::Plan, 500, 480),
+    (Kind::Validate, 150, 300),
+    (Kind::Add, 200, 300),
+    (Kind::Merge, 200, 300),
+    (Kind::Retain, 60, 300),
+    (Kind::Finish, 250, 300),
+    (Kind::Drain, 120, 300),
 ];
-/// The longest line that is recorded.
-const LINE: usize = 190;
-/// Answers that come often and say little: few of them are recorded.
-const DULL: [&str; 4] = [" = 0", " = no 7", " = no 11", " = no 12"];
+/// How many of each refusal of a call, of missing segments, and of plans that propose nothing.
+const OTHERS: usize = 25;
+/// How many cases of a call are drawn, and how many with full tables.
+const DRAWN: usize = 10_000;
+const FULL: usize = 60;
 
-/// The fixed list. Damaged tables have no text, so refusals 1, 2 and 5 are not in it.
-pub fn lines() -> Result<Vec<String>, String> {
+/// The fixed list.
+fn lines() -> Result<Vec<String>, String> {
     let mut lines = Vec::new();
     for figure in figures::all() {
-        if !matches!(figure.answer, Answer::Refused(1)) {
-            lines.push(line(&figure.case)?);
+        if flat::is_sayable(&figure.case) {
+            lines.push(told(&figure.case)?.1);
         }
     }
-    for (kind, count) in COUNTS {
-        let mut rng = rng::Rng::new(1);
-        let mut taken = BTreeSet::new();
-        while taken.len() < count {
-            let line = line(&draw::recordable(&mut rng, kind))?;
-            let dull = DULL.iter().any(|answer| line.contains(answer)) && !rng.once_in(8);
-            if line.len() <= LINE && !dull && taken.insert(line.clone()) {
-                lines.push(line);
-            }
+    for (kind, answered, longest) in ANSWERED {
+        let mut met = BTreeMap::new();
+        small(kind, answered, longest, &mut met, &mut lines)?;
+        full(kind, &mut met, &mut lines)?;
+        if let Some(number) = kind
+            .refusals()
+            .iter()
+            .find(|&&n| !met.contains_key(&Answer::Refused(n)))
+        {
+            return Err(format!("{} is never refused {number}", kind.name()));
         }
     }
     Ok(lines)
 }
 
-/// The case as its text says it: idle parts and unused places are not in the text.
-fn line(case: &Case) -> Result<String, String> {
-    let lent = text::case(case);
-    let (case, _) = text::read(&format!("{lent} = "))
-        .ok_or_else(|| format!("written, yet it cannot be read: {lent}"))?;
-    Ok(match told(&case)? {
-        (answer, None) => format!("{lent} = {answer}"),
-        (answer, Some(number)) => format!("{lent} = {answer} ~ {number}"),
-    })
+/// Small cases, damaged ones among them, until there are enough of each answer.
+fn small(
+    kind: Kind,
+    answered: usize,
+    longest: usize,
+    met: &mut BTreeMap<Answer, usize>,
+    lines: &mut Vec<String>,
+) -> Result<(), String> {
+    let mut rng = rng::Rng::new(1);
+    let mut said = BTreeSet::new();
+    for _ in 0..DRAWN {
+        let case = draw::recordable(&mut rng, kind);
+        if !flat::is_sayable(&case) {
+            continue;
+        }
+        let (answer, line) = told(&case)?;
+        let count = met.entry(sort_of(answer)).or_default();
+        let most = match sort_of(answer) {
+            Answer::Refused(_) | Answer::SegmentMissing | Answer::Planned { specs: 0, .. } => {
+                OTHERS
+            }
+            _ => answered,
+        };
+        if *count < most && line.len() <= longest && said.insert(line.clone()) {
+            *count += 1;
+            lines.push(line);
+        }
+    }
+    Ok(())
 }
 
-/// The answer as text, and the number of the known difference, if it is one.
-fn told(case: &Case) -> Result<(String, Option<usize>), String> {
+/// Where no small case is refused 14, the shortest with full tables that is.
+fn full(
+    kind: Kind,
+    met: &mut BTreeMap<Answer, usize>,
+    lines: &mut Vec<String>,
+) -> Result<(), String> {
+    if !kind.refusals().contains(&14) || met.contains_key(&Answer::Refused(14)) {
+        return Ok(());
+    }
+    let mut rng = rng::Rng::new(1);
+    let mut shortest: Option<String> = None;
+    for _ in 0..FULL {
+        let (answer, line) = told(&draw::full(&mut rng, kind))?;
+        let shorter = shortest.as_ref().is_none_or(|old| line.len() < old.len());
+        if answer == Answer::Refused(14) && shorter {
+            shortest = Some(line);
+        }
+    }
+    if let Some(line) = shortest {
+        met.insert(Answer::Refused(14), 1);
+        lines.push(line);
+    }
+    Ok(())
+}
+
+/// Answers that differ in their numbers alone are of one sort.
+fn sort_of(answer: Answer) -> Answer {
+    match answer {
+        Answer::Planned { specs, .. } => Answer::Planned {
+            specs: specs.min(1),
+            passes: 0,
+        },
+        Answer::Jobs(_) => Answer::Jobs(0),
+        other => other,
+    }
+}
+
+/// The answer, and the line that says it.
+fn told(case: &Case) -> Result<(Answer, String), String> {
     let Judged {
         answer,
         after,
         verdict,
     } = judge(case);
-    let answer = text::answer(answer, &after);
-    match verdict {
-        Verdict::Same => Ok((answer, None)),
-        Verdict::Known(name) => Ok((answer, Some(number(name)))),
-        Verdict::Unknown(what) => Err(format!("{}: {what}", text::case(case))),
-    }
+    let theirs = match verdict {
+        Verdict::Same => true,
+        Verdict::Known(_) => false,
+        Verdict::Unknown(what) => return Err(format!("{case:?}: {what}")),
+    };
+    Ok((answer, flat::line(case, answer, &after, theirs)))
 }
 
-fn number(name: &str) -> usize {
-    let place = known::NAMES.iter().position(|&n| n == name);
-    1 + place.expect("every known difference is listed")
+/// The whole file: each line behind its length, which counts the line's end.
+fn whole() -> Result<String, String> {
+    let lines = lines()?;
+    let sized = |line: &String| format!("{:08x} {line}\n", line.len() + 1);
+    Ok(lines.iter().map(sized).collect())
 }
 
-/// The whole file.
 pub fn print() -> Result<(), String> {
     if slatedb::FOUND.is_empty() {
         return Err("slatedb's code was absent when this was built".to_string());
     }
-    let lines = lines()?;
-    println!(
-        "# Answers of slatedb 0.16.0's own code, {} cases.",
-        lines.len()
-    );
-    println!("# Made by `oracle record`; `oracle replay FILE` reads it.");
-    print!("{}", text::FORM);
-    for (name, number) in known::NAMES.iter().zip(1..) {
-        println!("#   {number:>2}  {name}");
-    }
-    lines.iter().for_each(|line| println!("{line}"));
+    print!("{}", whole()?);
     Ok(())
 }
 
-/// Puts every line of a file before the judges. The answers must be those recorded, and so must the difference, if slatedb's
-/// code is there to differ.
-pub fn replay(file: &str) -> Result<(), String> {
-    let recorded = std::fs::read_to_string(file).map_err(|error| error.to_string())?;
-    let mut held = 0;
-    for line in recorded.lines().filter(|line| !line.starts_with('#')) {
-        let (case, answer) = text::read(line).ok_or_else(|| format!("cannot be read: {line}"))?;
-        let (told, difference) = told(&case)?;
-        let (answer, recorded) = match answer.split_once(" ~ ") {
-            Some((answer, number)) => (answer, number.parse().ok()),
-            None => (answer, None),
-        };
-        if answer != told || (recorded != difference && !slatedb::FOUND.is_empty()) {
-            return Err(format!("{line}\n  now: {told}, difference {difference:?}"));
-        }
-        held += 1;
+/// Whether a file holds what is recorded now. Without slatedb's code nothing can be said.
+pub fn check(file: &str) -> Result<(), String> {
+    if slatedb::FOUND.is_empty() {
+        println!("slatedb's code is absent: {file} is not made again");
+        return Ok(());
     }
-    println!("{held} recorded answers hold");
+    let recorded = std::fs::read_to_string(file).map_err(|error| error.to_string())?;
+    if recorded != whole()? {
+        return Err(format!("{file} is not what `oracle record` prints"));
+    }
+    println!(
+        "{} recorded answers are those of today",
+        recorded.lines().count()
+    );
     Ok(())
 }

@@ -1,33 +1,9 @@
-//! Cases and answers as lines of text: written, and read back. `FORM` describes the form.
+//! Cases and answers as lines of text: written, and read back. The head of differences.txt describes the form.
 use lent::tables::UNUSED;
 use lent::{
     Answer, Case, Job, Jobs, LoneJob, LoneSpec, Options, Plan, Run, Source, Tree, Trees, Ulid,
     View, Watermark, JOBS, SOURCES,
 };
-
-pub const FORM: &str = "\
-# A line is a call, what it is lent, `=`, and the answer. Fields are parted by spaces.
-#   call      plan | validate | add | merge | retain | finish | drain
-#   o         options: min, max, concurrent limit, bits of the threshold in hexadecimal
-#   t         a tree: prefix : L0 rows ; runs ; watermark. An L0 row is view~SST*size, a run id*size. The watermark is
-#             view,SST with - for an absent one, or nothing where both are absent
-#   j, k      a job, a remote job: id / status / spec
-#   n         a job to be added: id / status / spec
-#   s         a spec to validate
-#   i, u      the id of the job to finish or drain; the output's id*size
-#   a spec    prefix>destination : sources, or prefix! : sources for a drain. A source is r and a run's id, or v and a view
-#   a ULID    its low word, or high.low where the high word is not 0
-# Every table is lent at its capacity, a plan with 64 spec places and 1,024 source places. Idle parts are 0. Unused places
-# may hold anything: those that the call frees hold zeros after it, the others what they held.
-# The answer:
-#   no N                refused N: nothing has changed
-#   PASSES and specs    of plan
-#   ok                  of validate
-#   COUNT and jobs      of add, merge, retain: the whole job table afterwards
-#   done and a tree     of finish, drain: the job's tree afterwards; the job's status is 4, nothing else has changed
-#   missing             of finish, drain: the job's status is 5, nothing else has changed
-# `~ N` at the end: slatedb's code does otherwise, by the difference of that number; the answer is then 01's.
-";
 
 // ---- writing
 

@@ -8,8 +8,8 @@ use lib.Bits.{bitAnd, and-mask}
 use lib.Dec.{T, ltb}
 use lib.Ieee.{binary32}
 use lib.Ieee.Bits.{nanBits-above}
-use Rattle.limit_figures.proofs.threshold_of.Statement.{statement}
-use Rattle.limit_figures.proofs.threshold_of.Tie as tie
+use Rattle.hex.proofs.threshold_of.Statement.{statement}
+use Rattle.hex.proofs.threshold_of.Tie as tie
 
 float-from-bits-result : tie.Need-float-from-bits-result
 float-from-bits-result c =
