@@ -14,12 +14,41 @@ pub fn id(n: u32) {
     number(n as u64);
 }
 
-// A figure whose answer is one number.
-pub fn line(figure: &[u8], expected: u64, got: u64) {
-    text(figure);
-    text(b" expected ");
-    number(expected);
-    text(b", got ");
-    number(got);
+// So many of what the word names.
+pub fn counted(n: usize, word: &[u8]) {
+    number(n as u64);
+    text(b" ");
+    text(word);
+    if n != 1 {
+        text(b"s");
+    }
+}
+
+// The answer of a call that refuses.
+pub fn refused(n: u32) {
+    text(b"refused ");
+    id(n);
     text(b"\n");
+}
+
+// What the lines below are about.
+pub fn heading(s: &[u8]) {
+    text(b"== ");
+    text(s);
+    text(b"\n");
+}
+
+// A call, and what 01 says that it answers; what came follows.
+pub fn call(said: &[u8], expected: &[u8]) {
+    text(said);
+    text(b": expected ");
+    text(expected);
+    text(b", got ");
+}
+
+// What 01 says of a row; what came follows on the next line, below it.
+pub fn row(expected: &[u8]) {
+    text(b"  expected ");
+    text(expected);
+    text(b"\n  got      ");
 }

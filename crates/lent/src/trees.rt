@@ -13,15 +13,6 @@ pub struct Trees {
     pub run_sizes: [u64; 512],
 }
 
-// The refusal of an answer, 0 for none.
-fn refusal_of(answer: ValidateAnswer) -> u32 {
-    match answer {
-        ValidateAnswer::Accepted => 0,
-        ValidateAnswer::Refused(n) => n,
-    }
-}
-
-// The refusal of a spec, 0 where it is accepted.
 pub fn validate_spec(
     trees: Trees,
     drain: u8,
@@ -30,7 +21,7 @@ pub fn validate_spec(
     marks: &[u8],
     runs: &[u32],
     views: &[u64],
-) -> u32 {
+) -> ValidateAnswer {
     let rows = trees.rows;
     let watermark_marks = trees.watermark_marks;
     let watermarks = trees.watermarks;
@@ -38,7 +29,7 @@ pub fn validate_spec(
     let l0_sizes = trees.l0_sizes;
     let run_ids = trees.run_ids;
     let run_sizes = trees.run_sizes;
-    let answer = validate(
+    validate(
         trees.count,
         &rows,
         &watermark_marks,
@@ -53,6 +44,5 @@ pub fn validate_spec(
         marks,
         runs,
         views,
-    );
-    refusal_of(answer)
+    )
 }

@@ -10,9 +10,9 @@ use crate::reader::number;
 use crate::trees::change_trees;
 use crate::trees::read_trees;
 use crate::trees::same_trees;
-use lent::finishing::Tables;
-use lent::finishing::drain_job;
-use lent::finishing::finish_job;
+use lent::finishing::Ending;
+use lent::finishing::Left;
+use lent::finishing::end_job;
 use lent::jobs::Jobs;
 use lent::jobs::merge_jobs;
 use lent::jobs::retain_jobs;
@@ -54,7 +54,7 @@ fn is_missing(answer: FinishAnswer) -> bool {
 }
 
 // What the line says of a finish or a drain, against the tables that it left: 1 where the segment is missing, and the changes.
-fn tables_agree(s: &[u8], at: &mut usize, n: u32, trees: Trees, jobs: Jobs, left: Tables) -> bool {
+fn tables_agree(s: &[u8], at: &mut usize, n: u32, trees: Trees, jobs: Jobs, left: Left) -> bool {
     let missing = number(s, at) == 1;
     let said_trees = change_trees(s, at, trees);
     let said_jobs = change_marks(s, at, jobs);
@@ -74,7 +74,13 @@ pub fn finish_agrees(s: &[u8], at: &mut usize, n: u32) -> bool {
     let id_low = number(s, at);
     let output = half(s, at);
     let size = number(s, at);
-    let left = finish_job(trees, jobs, id_high, id_low, output, size);
+    let left = end_job(
+        trees,
+        jobs,
+        id_high,
+        id_low,
+        Ending::Finish { output, size },
+    );
     tables_agree(s, at, n, trees, jobs, left)
 }
 
@@ -83,6 +89,6 @@ pub fn drain_agrees(s: &[u8], at: &mut usize, n: u32) -> bool {
     let jobs = read_jobs(s, at);
     let id_high = number(s, at);
     let id_low = number(s, at);
-    let left = drain_job(trees, jobs, id_high, id_low);
+    let left = end_job(trees, jobs, id_high, id_low, Ending::Drain);
     tables_agree(s, at, n, trees, jobs, left)
 }

@@ -11,6 +11,14 @@ use crate::trees::read_trees;
 use crate::words;
 use lent::jobs::add_job;
 use lent::trees::validate_spec;
+use rules::ValidateAnswer;
+
+fn refusal_of(answer: ValidateAnswer) -> u32 {
+    match answer {
+        ValidateAnswer::Accepted => 0,
+        ValidateAnswer::Refused(n) => n,
+    }
+}
 
 pub fn validate_agrees(s: &[u8], at: &mut usize, n: u32) -> bool {
     let trees = read_trees(s, at);
@@ -26,7 +34,7 @@ pub fn validate_agrees(s: &[u8], at: &mut usize, n: u32) -> bool {
     halves::fill(s, at, &mut runs, 0);
     let view_end = count(s, at);
     words::fill(s, at, &mut views, 0);
-    let refusal = validate_spec(
+    let answer = validate_spec(
         trees,
         drain,
         prefix,
@@ -35,7 +43,7 @@ pub fn validate_agrees(s: &[u8], at: &mut usize, n: u32) -> bool {
         halves::first(&runs, run_end),
         words::first(&views, view_end),
     );
-    refusal == n
+    refusal_of(answer) == n
 }
 
 pub fn add_agrees(s: &[u8], at: &mut usize, n: u32) -> bool {
