@@ -94,6 +94,14 @@ static void *do_finish(void *unused)
     return unused;
 }
 
+static void *do_drain(void *unused)
+{
+    fiervalun_ulid id = {0, 7};
+    jobs.job_marks[2 * 7 + 1] = 1;
+    refusal = fiervalun_drain_job(&trees, &jobs, id, &outcome);
+    return unused;
+}
+
 static void *do_nothing(void *unused)
 {
     return unused;
@@ -132,6 +140,7 @@ int main(void)
     } calls[] = {
         {"plan", do_plan},   {"validate", do_validate}, {"add", do_add},
         {"merge", do_merge}, {"retain", do_retain},     {"finish", do_finish},
+        {"drain", do_drain},
     };
     size_t k, empty = stack_of(do_nothing);
     printf("bytes of stack, beyond those of an empty thread\n");

@@ -1,5 +1,6 @@
 // Puts the recorded answers of standard input before the public calls, and writes for each call and answer how many agree. A line
-// that does not agree is written out. Each line begins with its length, in eight digits and a blank.
+// that does not agree is written out. The record is what `oracle record` prints (oracle/src/flat.rs has its form): each line stands
+// behind its length, in eight digits and a blank.
 mod bytes;
 mod calls;
 mod halves;
