@@ -23,13 +23,13 @@ use Rattle.rules.proofs.Bounds.{JobsGood, jobs-good}
 use Rattle.rules.proofs.Inserting.{rising, hasId, keep-all, none-kept, keep-inserted, length-inserted, entries-inserted}
 use Rattle.rows.specs.Movers.{marked}
 use Rattle.rows.proofs.Lift.{marks-say}
+use Rattle.merging.specs.Merge.{Flags}
+use Rattle.merging.proofs.Flagged.{Flagged, jobs-flagged, entries-flagged}
 use Rattle.job_rows.specs.Slices.{AtCapacity, HasRoom, Keeps, Inserts}
 use Rattle.job_rows.proofs.Fitting.{good-capacity}
 use Rattle.job_rows.proofs.Again.{lay-again, lay-fits, sources-laid}
-use Rattle.compactor_state.specs.Merge.{Flags}
 use Rattle.compactor_state.specs.AddCall.{refusedFirst, refusedFull}
 use Rattle.compactor_state.specs.Answers.{Answers}
-use Rattle.compactor_state.proofs.Flagged.{Flagged, jobs-flagged, entries-flagged}
 use Rattle.compactor_state.proofs.Answered.{call-refused, call-done}
 
 -- ---- refusals 1, 2 and 10

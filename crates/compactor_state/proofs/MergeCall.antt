@@ -21,9 +21,10 @@ use Rattle.rules.proofs.Rows.{length-rowsFrom, getD-rowsFrom}
 use Rattle.rules.proofs.Inserting.{rising}
 use Rattle.rows.specs.Shape.{goodMarksAt, flatJobs}
 use Rattle.rows.proofs.Shapes.{flat-jobs}
+use Rattle.merging.specs.Merge.{GoodRows, HasRows, Planned}
 use Rattle.job_rows.proofs.Fitting.{good-capacity}
 use Rattle.compactor_state.specs.Answers.{Answers}
-use Rattle.compactor_state.specs.Merge.{GoodRows, HasRows, Planned, tablesRefusal}
+use Rattle.compactor_state.specs.MergeCall.{tablesRefusal}
 use Rattle.compactor_state.specs.Taking.{Ready}
 use Rattle.compactor_state.proofs.Answered.{call-refused, call-done}
 

@@ -23,10 +23,10 @@ use Rattle.rules.proofs.Bounds.{JobsGood, jobs-good}
 use Rattle.rules.proofs.Ulids.{below-trans, below-other}
 use Rattle.rules.proofs.Inserting.{rising, allAbove, rising-rest, rising-first}
 use Rattle.rows.specs.Movers.{marked}
+use Rattle.merging.proofs.Flagged.{marked-bool}
 use Rattle.job_rows.specs.Slices.{Keeps}
 use Rattle.compactor_state.specs.Retention.{finishedStatus, keptStatuses}
 use Rattle.compactor_state.specs.Answers.{Answers}
-use Rattle.compactor_state.proofs.Flagged.{marked-bool}
 use Rattle.compactor_state.proofs.Answered.{call-refused, call-done}
 
 -- ---- the loop: the flags from job i on are set, and `seen` says whether one of these jobs is finished

@@ -24,11 +24,11 @@ use Rattle.rules.proofs.Inserting.{hasId, length-inserted, entries-inserted}
 use Rattle.rows.specs.Movers.{marked}
 use Rattle.rows.proofs.Sums.{Summed, sum-starts, sum-next}
 use Rattle.rows.proofs.Lift.{marks-say}
+use Rattle.merging.specs.Merge.{adopted, stays, insertedAll, allNew, Flags}
+use Rattle.merging.proofs.Merged.{Takes, merged-takes, length-all, entries-all}
 use Rattle.job_rows.specs.Slices.{AtCapacity, HasRoom, Inserts, Keeps, lentJob}
 use Rattle.job_rows.proofs.Again.{lay-again, lay-fits}
-use Rattle.compactor_state.specs.Merge.{adopted, stays, insertedAll, allNew, Flags, withFlag}
-use Rattle.compactor_state.specs.Taking.{CanTake, Took, CanTakeAll, TookAll, Ready}
-use Rattle.compactor_state.proofs.Merged.{Takes, merged-takes, length-all, entries-all}
+use Rattle.compactor_state.specs.Taking.{withFlag, CanTake, Took, CanTakeAll, TookAll, Ready}
 
 -- ---- one remote job, its source entries lent as parts of the slices
 

@@ -1,8 +1,8 @@
 -- The job table while a merge changes it: remote jobs taken one by one, and the whole change.
 use Prim.Native.Nat.{ℕ, _+_, _<_, _≤_}
 use mathlib.Core.Path.{_≡_}
-use mathlib.Core.List.{List}
-use mathlib.Core.Bool.{true, false}
+use mathlib.Core.List.{List, [], _∷_}
+use mathlib.Core.Bool.{true, false, cond}
 use lib.ListN.{length, getD}
 use Rattle.rules.specs.Lists.{any, linked}
 use Rattle.rules.specs.Tables.{sameUlid, ulidBelow, Job}
@@ -10,8 +10,13 @@ use Rattle.rules.specs.Lent.{LentJobs, sourceCount, sourcesUsed, jobAt, jobsOf,
 use Rattle.rules.specs.Bounds.{maxJobs, maxSources}
 use Rattle.rules.specs.Jobs.{inserted, merged, tooMany}
 use Rattle.rows.specs.Movers.{marked}
+use Rattle.merging.specs.Merge.{adopted, stays, insertedAll, allNew, Flags}
 use Rattle.job_rows.specs.Slices.{AtCapacity}
-use Rattle.compactor_state.specs.Merge.{adopted, stays, insertedAll, allNew, Flags, withFlag}
+
+-- the jobs with a flag, where flag i is that of the first
+unfoldable pub withFlag : List ℕ → ℕ → List Job → List Job
+withFlag flags i [] = []
+withFlag flags i (j ∷ js) = cond (marked (getD flags i 0)) (j ∷ withFlag flags (i + 1) js) (withFlag flags (i + 1) js)
 
 -- remote job i, whose entries begin at entry `at`, stands in its table, and where it has a flag there is room for it in table l
 pub record CanTake (l r : LentJobs) (flags : List ℕ) (i at : ℕ) : Type 0 where

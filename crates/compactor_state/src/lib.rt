@@ -1,7 +1,5 @@
 // slatedb's job rules over rows of lent tables: adding, merging and retention.
 pub mod add;
 pub mod adding;
-pub mod adoption;
 pub mod merge;
-mod merging;
 pub mod retain;

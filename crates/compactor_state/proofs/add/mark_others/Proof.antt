@@ -6,7 +6,7 @@ use mathlib.Core.Path.{_≡_, refl, ap}
 use mathlib.Core.Bool.{not}
 use Rattle.rules.specs.Tables.{sameUlid}
 use Rattle.rules.specs.Lent.{ulidAt}
-use Rattle.compactor_state.proofs.Flagged.{Flagged, flags-start, flags-next}
+use Rattle.merging.proofs.Flagged.{Flagged, flags-start, flags-next}
 use Rattle.compactor_state.proofs.AddCall.{others-flags}
 use Rattle.compactor_state.proofs.add.mark_others.Statement.{statement}
 use Rattle.compactor_state.proofs.add.mark_others.Tie as tie
