@@ -13,7 +13,7 @@ use Rattle.rules.specs.Lent.{rowsFrom, ulidAt}
 use Rattle.rules.specs.Bounds.{maxL0, maxRuns}
 use Rattle.rules.specs.Pick.{Picked, pick}
 use Rattle.rules.specs.Plan.{ask, withPick}
-use Rattle.rules.proofs.Rows.{rowsFrom-same, map-rowsFrom}
+use Rattle.rules.proofs.Rows.{rowsFrom-same, part-is, map-rowsFrom}
 use Rattle.tree_pick.specs.declared.pick.Pick.{Pick}
 use Rattle.tree_pick.specs.declared.pick.Pick.the-variants.{Nothing, Rows, Window}
 use Rattle.plan_passes.specs.declared.ask.Asked.{Asked}
@@ -22,7 +22,6 @@ use Rattle.tree_pick.specs.TreeState.{TreeState}
 use Rattle.tree_pick.specs.Asked.{rowIn, runIn, AskedAt, stateIn}
 use Rattle.tree_pick.specs.Pick.{L0State, TreeIn, viewsIn, runsIn, Bounded, Within, pickIn, PickedFrom}
 use Rattle.plan_passes.specs.Ask.{AtCapacity, l0From, l0Many, runsFrom, runsMany, AskedRow, shiftedBy, PickedAsked, Step}
-use Rattle.tree_pick.proofs.Parts.{part-is}
 
 -- number i of a part
 in-part : (s : List ℕ) (a n i : ℕ) → i < n → getD (take n (drop a s)) i 0 ≡ getD s (a + i) 0
@@ -53,8 +52,8 @@ pub tree-in : {asked l0Ids l0Sizes runIds runSizes : List ℕ} {k : ℕ} {t : Tr
 tree-in {asked} {l0Ids} {l0Sizes} {runIds} {runSizes} {k} a h g g′ = record {
   prefix = a .prefix;
   l0 = a .l0 ∙ rows-in l0Ids l0Sizes (l0From asked k) (l0Many asked k) h;
-  ids = rw (a .runs, map-rowsFrom (λ r. r .id) (runIn runIds runSizes)) (sym (part-is runIds (runsFrom asked k) (runsMany asked k) g));
-  sizes = rw (a .runs, map-rowsFrom (λ r. r .size) (runIn runIds runSizes)) (sym (part-is runSizes (runsFrom asked k) (runsMany asked k) g′));
+  ids = rw (a .runs, map-rowsFrom (λ r. r .id) (runIn runIds runSizes)) (part-is runIds (runsFrom asked k) (runsMany asked k) g);
+  sizes = rw (a .runs, map-rowsFrom (λ r. r .size) (runIn runIds runSizes)) (part-is runSizes (runsFrom asked k) (runsMany asked k) g′);
 }
 
 -- ---- the pick

@@ -7,13 +7,12 @@ use native.Mathlib.Nat.{sub-zero, zero-add, add-zero, add-assoc, not-suc-le-zero
 use native.Mathlib.Omega.{arith}
 use lib.Dec.{leb}
 use lib.ListN.{length, getD, take, drop}
-use lib.Seq.{drop-cons}
 use borrow.Author.Tests.{le-leb, lt-leb, leb-false}
 use Rattle.rules.specs.Lists.{any, total}
 use Rattle.rules.specs.Tables.{L0Row, Run}
 use Rattle.rules.specs.Lent.{LentTrees, rowsFrom, l0At, runAt, l0Count, runCount, treesFrom, treesOf, l0Used, runsUsed}
 use Rattle.rules.specs.Planning.{sizesOver}
-use Rattle.rules.proofs.Rows.{rows-are, rows-next, map-rowsFrom}
+use Rattle.rules.proofs.Rows.{rows-are, rows-next, part-is, map-rowsFrom}
 use Rattle.rules.proofs.Lookups.{or-left, or-right}
 use Rattle.rows.proofs.Sums.{Summed, sum-starts, sum-next, sum-ends}
 use Rattle.plan_start.specs.Sizes.{overFrom}
@@ -21,14 +20,6 @@ use Rattle.plan_start.specs.Sizes.{overFrom}
 -- a slice is its own rows
 whole : (s : List ℕ) → rowsFrom (λ k. getD s k 0) 0 (length s) ≡ s
 whole s = rows-are (λ k. getD s k 0) 0 0 s (λ k h. ap (λ (n : ℕ). getD s n 0) (zero-add k))
-
--- and a part of it
-rows-part : (s : List ℕ) (r c : ℕ) → r + c ≤ length s → rowsFrom (λ k. getD s k 0) r c ≡ take c (drop r s)
-unfolding rowsFrom
-rows-part s r zero h = refl
-rows-part s r (suc c) h =
-    let next : suc r ≡ r + 1 = omega arith in
-    rw (drop-cons s r 0 (omega arith), next) (ap (λ (l : List ℕ). getD s r 0 ∷ l) (rows-part s (r + 1) c (omega arith)))
 
 -- ---- one sum
 module _ (s : List ℕ) where
@@ -98,9 +89,9 @@ unfolding treesFrom any rowsFrom total overFrom
 over-is t i l r zero h k = refl
 over-is t i l r (suc n) h k =
     let a : map (λ (v : L0Row). v .size) (rowsFrom (l0At t) l (l0Count t i)) ≡ take (l0Count t i) (drop l (t .l0Sizes)) =
-    map-rowsFrom (λ (v : L0Row). v .size) (l0At t) l (l0Count t i) ∙ rows-part (t .l0Sizes) l (l0Count t i) (omega arith) in
+    map-rowsFrom (λ (v : L0Row). v .size) (l0At t) l (l0Count t i) ∙ part-is (t .l0Sizes) l (l0Count t i) (omega arith) in
     let b : map (λ (v : Run). v .size) (rowsFrom (runAt t) r (runCount t i)) ≡ take (runCount t i) (drop r (t .runSizes)) =
-    map-rowsFrom (λ (v : Run). v .size) (runAt t) r (runCount t i) ∙ rows-part (t .runSizes) r (runCount t i) (omega arith) in
+    map-rowsFrom (λ (v : Run). v .size) (runAt t) r (runCount t i) ∙ part-is (t .runSizes) r (runCount t i) (omega arith) in
     rw (a, b, over-is t (i + 1) (l + l0Count t i) (r + runCount t i) n (omega arith) (omega arith))
 
 pub flat-sizes : (t : LentTrees) → l0Used t ≤ length (t .l0Sizes) → runsUsed t ≤ length (t .runSizes) → sizesOver (treesOf t) ≡ overFrom (t .trees) (t .l0Sizes) (t .runSizes) 0 0 0 (t .count)

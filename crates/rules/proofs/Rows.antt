@@ -5,7 +5,7 @@ use mathlib.Core.List.{List, [], _∷_, _++_, map, append-assoc}
 use native.Mathlib.Nat.{le-of-suc-le-suc, not-suc-le-zero, zero-add, add-zero, suc-add, mul-zero, mul-suc, mul-add, zero-lt-suc}
 use native.Mathlib.Omega.{arith}
 use lib.ListN.{length, getD, take, drop, length-append, List·getD-append}
-use lib.Seq.{getD-append-add, drop-drop, take-add}
+use lib.Seq.{getD-append-add, drop-cons, drop-drop, take-add}
 use Rattle.rules.specs.Lists.{concatMap}
 use Rattle.rules.specs.Lent.{rowsFrom}
 
@@ -60,6 +60,14 @@ module _ {ℓ} {A : Type ℓ} where
   rows-are f d i (x ∷ xs) h =
       ap₂ _∷_ (rw add-zero at (h 0 (zero-lt-suc (length xs))))
       (rows-are f d (i + 1) xs (λ k l. ap f (omega arith) ∙ h (suc k) (suc-le-suc l)))
+
+-- a part of a slice, number by number
+pub part-is : (s : List ℕ) (from count : ℕ) → from + count ≤ length s → rowsFrom (λ i. getD s i 0) from count ≡ take count (drop from s)
+unfolding rowsFrom
+part-is s from zero h = refl
+part-is s from (suc count) h =
+    let next : suc from ≡ from + 1 = omega arith in
+    rw (drop-cons s from 0 (omega arith), next) (ap (λ (l : List ℕ). getD s from 0 ∷ l) (part-is s (from + 1) count (omega arith)))
 
 -- ---- laying: rows of w numbers
 

@@ -12,10 +12,11 @@ use Rattle.rules.specs.Lists.{lastOf}
 use Rattle.rules.specs.Tables.{Tree, SourceId, sortedRun}
 use Rattle.rules.specs.Windows.{last, window}
 use Rattle.rules.specs.Pick.{runPick, takesRows, pick}
+use Rattle.rules.proofs.Rows.{part-is}
 use Rattle.tree_pick.specs.declared.pick.Pick.the-variants.{Nothing, Rows, Window}
 use Rattle.tree_pick.specs.Window.{Lies}
 use Rattle.tree_pick.specs.Pick.{TreeIn, pickIn}
-use Rattle.tree_pick.proofs.Parts.{part-is, last-drop, last-part}
+use Rattle.tree_pick.proofs.Parts.{last-drop, last-part}
 use Rattle.tree_pick.proofs.OldestRows.{oldest-views}
 
 module _ (o : Options) (w : List ℕ) {ids : List ℕ} {from count : ℕ} (l : Lies ids from count (lastOf (o .max) w)) where
@@ -61,4 +62,4 @@ module _ {p : ℕ} {l0Ids l0Sizes ids sizes : List ℕ} {t : Tree} (i : TreeIn p
     window-picked c =
         sym (second
         ∙ some-run o fresh t w (omega (arith, sized o w l))
-        ∙ rw (← last-drop (length w - o .max) w (omega (arith, sized o w l)), ← l .is, last-part ids from count (l .within) (omega arith), part-is ids from count (l .within), i .prefix))
+        ∙ rw (← last-drop (length w - o .max) w (omega (arith, sized o w l)), ← l .is, last-part ids from count (l .within) (omega arith), ← part-is ids from count (l .within), i .prefix))

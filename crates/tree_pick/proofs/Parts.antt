@@ -1,23 +1,12 @@
--- Parts of a slice: number by number, and their last ones.
+-- The last number of a part of a slice.
 use Prim.Native.Nat.{ℕ, zero, suc, _+_, _-_, _≤_, _<_}
 use mathlib.Core.Path.{_≡_, refl, sym, _∙_}
 use mathlib.Core.List.{List, [], _∷_}
 use native.Mathlib.Omega.{arith}
 use lib.ListN.{length, take, drop, getD, length-drop}
-use lib.Seq.{take-suc, getD-drop, getD-take, ext-getD, length-take-le}
-use Rattle.rules.specs.Lent.{rowsFrom}
+use lib.Seq.{take-suc, getD-drop}
 use Rattle.rules.specs.Windows.{last}
-use Rattle.rules.proofs.Rows.{length-rowsFrom, getD-rowsFrom}
 use Rattle.tree_pick.proofs.Appended.{last-append}
-
-pub part-is : (s : List ℕ) (from count : ℕ) → from + count ≤ length s → take count (drop from s) ≡ rowsFrom (λ i. getD s i 0) from count
-part-is s from count h =
-    ext-getD 0 (take count (drop from s)) (rowsFrom (λ i. getD s i 0) from count)
-    (size ∙ sym (length-rowsFrom (λ i. getD s i 0) from count))
-    (λ k l. let there : k < count = omega (arith, size) in getD-take count (drop from s) k 0 there ∙ getD-drop from s k 0 ∙ sym (getD-rowsFrom (λ i. getD s i 0) from count k 0 there))
-  where
-    size : length (take count (drop from s)) ≡ count
-    size = length-take-le count (drop from s) (omega (arith, length-drop from s))
 
 last-cons : (x : ℕ) (xs : List ℕ) → 0 < length xs → last (x ∷ xs) ≡ last xs
 unfolding last

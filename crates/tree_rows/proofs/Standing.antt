@@ -5,43 +5,32 @@ use mathlib.Core.Path.{_≡_, refl, sym, ap, _∙_}
 use mathlib.Core.List.{List, [], _∷_, map}
 use native.Mathlib.Nat.{le-of-suc-le-suc, not-suc-le-zero, mul-zero, mul-suc, mul-add}
 use native.Mathlib.Omega.{arith}
-use lib.ListN.{length, getD, take, drop, length-append, length-drop}
-use lib.Seq.{getD-drop, getD-take, ext-getD, length-take-le, drop-drop, take-add}
+use lib.ListN.{length, getD, take, drop, length-append}
+use lib.Seq.{drop-drop, take-add}
 use Rattle.rules.specs.Lists.{concatMap, total}
 use Rattle.rules.specs.Tables.{L0Row, Run, Tree}
 use Rattle.rules.specs.Lent.{LentTrees, rowsFrom, l0At, runAt, treeAt, treesFrom, treesOf, l0Count, runCount, l0Used, runsUsed, treeWords, watermarkMarkWords, watermarkWords, l0Words, l0Of, runsOf}
-use Rattle.rules.proofs.Rows.{length-rowsFrom, getD-rowsFrom, map-rowsFrom, words-of-rows}
+use Rattle.rules.proofs.Rows.{length-rowsFrom, part-is, map-rowsFrom, words-of-rows}
 use Rattle.rules.proofs.Packed.{l0-first, runs-first, tree-is}
 
 -- ---- numbers that stand one after the other
 
--- a part of a slice, number by number
-numbers : (s : List ℕ) (from n : ℕ) → from + n ≤ length s → rowsFrom (λ k. getD s k 0) from n ≡ take n (drop from s)
-numbers s from n h =
-    ext-getD 0 (rowsFrom (λ k. getD s k 0) from n) (take n (drop from s))
-    (length-rowsFrom (λ k. getD s k 0) from n ∙ sym size)
-    (λ k l. let there : k < n = omega (arith, length-rowsFrom (λ j. getD s j 0) from n) in
-    getD-rowsFrom (λ j. getD s j 0) from n k 0 there ∙ sym (getD-take n (drop from s) k 0 there ∙ getD-drop from s k 0))
-  where
-    size : length (take n (drop from s)) ≡ n
-    size = length-take-le n (drop from s) (omega (arith, length-drop from s))
-
 two : (s : List ℕ) (a : ℕ) → a + 2 ≤ length s → getD s a 0 ∷ getD s (a + 1) 0 ∷ [] ≡ take 2 (drop a s)
 unfolding rowsFrom
-two s a h = numbers s a 2 h
+two s a h = part-is s a 2 h
 
 three : (s : List ℕ) (a : ℕ) → a + 3 ≤ length s → getD s a 0 ∷ getD s (a + 1) 0 ∷ getD s (a + 2) 0 ∷ [] ≡ take 3 (drop a s)
 unfolding rowsFrom
 three s a h =
     let e : a + 1 + 1 ≡ a + 2 = omega arith in
-    rw e at (numbers s a 3 h)
+    rw e at (part-is s a 3 h)
 
 -- two ULIDs
 four : (s : List ℕ) (a : ℕ) → a + 4 ≤ length s → getD s a 0 ∷ getD s (a + 1) 0 ∷ getD s (a + 2) 0 ∷ getD s (a + 2 + 1) 0 ∷ [] ≡ take 4 (drop a s)
 unfolding rowsFrom
 four s a h =
     let e : a + 1 + 1 ≡ a + 2 = omega arith in
-    rw e at (numbers s a 4 h)
+    rw e at (part-is s a 4 h)
 
 -- ---- the rows of all trees
 
@@ -79,13 +68,13 @@ module _ (t : LentTrees) where
       (sym (words-of-rows l0Words 4 (λ v. refl) (t .l0Ids) (l0At t) (λ i k. four (t .l0Ids) (4 * i) k) 0 (l0Used t) (omega arith)))
 
   pub l0-sizes-stand : l0Used t ≤ length (t .l0Sizes) → take (l0Used t) (t .l0Sizes) ≡ map (λ v. v .size) (l0Of (treesOf t))
-  l0-sizes-stand h = sym (ap (map (λ (v : L0Row). v .size)) (l0-first t) ∙ map-rowsFrom (λ (v : L0Row). v .size) (l0At t) 0 (l0Used t) ∙ numbers (t .l0Sizes) 0 (l0Used t) (omega arith))
+  l0-sizes-stand h = sym (ap (map (λ (v : L0Row). v .size)) (l0-first t) ∙ map-rowsFrom (λ (v : L0Row). v .size) (l0At t) 0 (l0Used t) ∙ part-is (t .l0Sizes) 0 (l0Used t) (omega arith))
 
   pub run-ids-stand : runsUsed t ≤ length (t .runIds) → take (runsUsed t) (t .runIds) ≡ map (λ r. r .id) (runsOf (treesOf t))
-  run-ids-stand h = sym (ap (map (λ (r : Run). r .id)) (runs-first t) ∙ map-rowsFrom (λ (r : Run). r .id) (runAt t) 0 (runsUsed t) ∙ numbers (t .runIds) 0 (runsUsed t) (omega arith))
+  run-ids-stand h = sym (ap (map (λ (r : Run). r .id)) (runs-first t) ∙ map-rowsFrom (λ (r : Run). r .id) (runAt t) 0 (runsUsed t) ∙ part-is (t .runIds) 0 (runsUsed t) (omega arith))
 
   pub run-sizes-stand : runsUsed t ≤ length (t .runSizes) → take (runsUsed t) (t .runSizes) ≡ map (λ r. r .size) (runsOf (treesOf t))
-  run-sizes-stand h = sym (ap (map (λ (r : Run). r .size)) (runs-first t) ∙ map-rowsFrom (λ (r : Run). r .size) (runAt t) 0 (runsUsed t) ∙ numbers (t .runSizes) 0 (runsUsed t) (omega arith))
+  run-sizes-stand h = sym (ap (map (λ (r : Run). r .size)) (runs-first t) ∙ map-rowsFrom (λ (r : Run). r .size) (runAt t) 0 (runsUsed t) ∙ part-is (t .runSizes) 0 (runsUsed t) (omega arith))
 
   -- ---- where the rows of tree i begin, and how many it has
 
