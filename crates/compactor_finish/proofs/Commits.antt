@@ -28,17 +28,17 @@ use Rattle.rows.specs.Read.{Stands, Entries}
 use Rattle.tree_rows.specs.Change.{changedAt, keepRows, putRun, putWatermark}
 use Rattle.tree_rows.specs.Slices.{runsBefore}
 use Rattle.tree_rows.proofs.Changes.{in-tree, changed-same}
-use Rattle.compactor_finish.specs.declared.finishing.Work.{Work}
-use Rattle.compactor_finish.specs.declared.output.Place.{Place}
-use Rattle.compactor_finish.specs.declared.output.Place.the-variants.{Refused, At}
+use Rattle.finishing.specs.declared.work.Work.{Work}
+use Rattle.finishing.specs.declared.output.Place.{Place}
+use Rattle.finishing.specs.declared.output.Place.the-variants.{Refused, At}
 use Rattle.rows.specs.Refusals.{tablesRefusal}
-use Rattle.compactor_finish.specs.Finding.{NoWork, JobFound, TreeFound, WorkFound, jobIn, namesIn}
-use Rattle.compactor_finish.specs.Placing.{clashIn, oldPlace, placeIn}
-use Rattle.compactor_finish.specs.Flagging.{TreeRoom, JobRoom, rowStays, runStays, Flags}
+use Rattle.finishing.specs.Finding.{NoWork, JobFound, TreeFound, WorkFound, jobIn, namesIn}
+use Rattle.finishing.specs.Placing.{clashIn, oldPlace, placeIn}
+use Rattle.finishing.specs.Flagging.{TreeRoom, JobRoom, rowStays, runStays, Flags}
 use Rattle.compactor_finish.specs.Finishes.{refusedWith, SegmentGone, Commits, Drains}
 use Rattle.compactor_finish.proofs.Statuses.{status-laid}
 use Rattle.compactor_finish.proofs.Staying.{prefixes-once, goneRuns, misplaced-is, too-many-is, stay-count, place-count}
-use Rattle.compactor_finish.proofs.Pasting.{names-of}
+use Rattle.finishing.proofs.Pasting.{names-of}
 
 -- ---- refusals 1 and 2
 

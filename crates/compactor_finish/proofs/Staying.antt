@@ -26,9 +26,9 @@ use Rattle.tree_rows.proofs.Changes.{in-tree}
 use Rattle.tree_rows.proofs.Standing.{runs-before, runs-of}
 use Rattle.tree_rows.proofs.Flags.{flags-mine}
 use Rattle.tree_rows.proofs.Counts.{kept-many}
-use Rattle.compactor_finish.specs.Placing.{runOf, clashIn, oldPlace}
-use Rattle.compactor_finish.proofs.Marks.{leading-same}
-use Rattle.compactor_finish.proofs.Placed.{old-within}
+use Rattle.finishing.specs.Placing.{runOf, clashIn, oldPlace}
+use Rattle.finishing.proofs.Marks.{leading-same}
+use Rattle.finishing.proofs.Placed.{old-within}
 
 -- ---- a run that stays has the number
 

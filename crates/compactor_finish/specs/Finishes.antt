@@ -17,7 +17,7 @@ use Rattle.compactor_finish.specs.declared.finish.Outcome.{Outcome}
 use Rattle.compactor_finish.specs.declared.finish.Outcome.the-variants.{Refused, Missing, Commit}
 use Rattle.compactor_finish.specs.declared.drain.Outcome.{Outcome as Drained}
 use Rattle.compactor_finish.specs.declared.drain.Outcome.the-variants.{Refused as NotDrained, Missing as NoSegment, Commit as Moved}
-use Rattle.compactor_finish.specs.Placing.{markOf}
+use Rattle.finishing.specs.Placing.{markOf}
 
 -- "Each returns its number alone; every lent table and output keeps its bytes."
 abbrev pub refusedWith : ℕ → LentTrees → LentJobs → FinishResult

@@ -1,5 +1,2 @@
 -- What the contracts of finish and drain cite beside document 01's definitions.
-pub mod Finding
-pub mod Placing
-pub mod Flagging
 pub mod Finishes

@@ -1,7 +1,3 @@
 // slatedb's finish and drain over rows of lent tables: what is refused is found first, then the tables change.
 pub mod drain;
 pub mod finish;
-pub mod finishing;
-pub mod flagging;
-pub mod output;
-pub mod watermarks;

@@ -3,7 +3,7 @@ use mathlib.Core.Path.{refl}
 use mathlib.Core.List.{List}
 use Prim.Native.Nat.{ℕ}
 use Rattle.rules.specs.Lent.{LentTrees, LentJobs, lentTrees, lentJobs}
-use Rattle.compactor_finish.specs.Placing.{markOf}
+use Rattle.finishing.specs.Placing.{markOf}
 use Rattle.compactor_finish.proofs.Commits.{drain-commits, drain-mark-fit, drained-mark}
 use borrow.Author.Needs.{needs}
 use Rattle.compactor_finish.proofs.drain.mark_drain.Statement.{statement}

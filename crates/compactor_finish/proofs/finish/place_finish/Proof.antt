@@ -5,7 +5,7 @@ use Prim.Native.Nat.{ℕ}
 use native.Mathlib.Omega.{arith}
 use Rattle.rules.specs.Lent.{LentTrees, LentJobs, lentTrees, lentJobs, runsUsed, treeAt, l0Count, runCount, rowsFrom}
 use Rattle.rules.specs.Lists.{total}
-use Rattle.compactor_finish.specs.Placing.{markOf}
+use Rattle.finishing.specs.Placing.{markOf}
 use Rattle.compactor_finish.proofs.Commits.{finish-refused, finish-commits, mark-of, own-rows, finish-mark-fit, output-fit}
 use borrow.Author.Needs.{needs}
 use Rattle.compactor_finish.proofs.finish.place_finish.Statement.{statement}
