@@ -37,7 +37,7 @@ trees-holds c = pass-starts
 ask-tree-requires : tie.Need-ask-tree-requires Inv-trees μ-trees Inv-planning μ-planning
 ask-tree-requires c κs = let s = c .before .before .before .before .before .before .before .before .before .before .before .before .before .before in
     let r = room-left (c .before .before .before .before .before .planning .inv) (c .before .before .before .before .trees .inv) (c .before .before .if1 .left) (s .pre .1) (s .pre .2) in
-    (s .pre .0, r .0, r .1, s .pre .3, s .pre .4 (c .before .before .before .before .trees .i) (c .before .before .before .trees-test .taken))
+    (s .pre .0, r .0, r .1, s .pre .3, s .pre .4 _ (omega (arith, c .before .before .before .trees-test .taken)))
 
 add-made : tie.Need-add-made Inv-trees μ-trees Inv-planning μ-planning
 add-made c = record { fits = omega (arith, c .before .before .before .before .before .before .before .before .before .before .trees .inv .slots, c .before .before .before .before .before .before .before .before .before .before .before .planning .inv .held, c .before .before .before .before .before .ask-tree .ensures .0 .once, (c .before .before .before .before .before .before .before .before .before .before .before .before .before .before .before .before .before .before .before .before) .fits .slots) }
