@@ -157,7 +157,7 @@ fn spec(rng: &mut Rng, s: &mut LoneSpec) {
     }
 }
 
-pub fn options(rng: &mut Rng, o: &mut Options) {
+fn options(rng: &mut Rng, o: &mut Options) {
     match rng.below(5) {
         0 => o.concurrent = rng.one_of(&[65, 100, u32::MAX]),
         1 => o.min = 0,

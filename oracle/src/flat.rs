@@ -24,6 +24,9 @@ use lent::{
     Answer, Case, Jobs, LoneSpec, Plan, Sources, Trees, JOBS, L0_ROWS, RUNS, SOURCES, TREES,
 };
 
+/// The places that the reader has for the sources of a spec by itself.
+const ALONE: usize = 1100;
+
 /// The numbers of a slice, and how many bytes each has.
 struct Slice {
     numbers: Vec<u64>,
@@ -104,26 +107,35 @@ fn changeable(case: &Case) -> Vec<Slice> {
     }
 }
 
-/// Whether every table is lent at its capacity, and a plan and a spec at most at theirs.
+fn lengths(slices: &[Slice]) -> Vec<usize> {
+    slices.iter().map(|slice| slice.numbers.len()).collect()
+}
+
+fn are_whole(t: &Trees) -> bool {
+    let (rows, l0, runs) = (TREES, L0_ROWS, RUNS);
+    lengths(&trees(t)) == [3 * rows, 2 * rows, 4 * rows, 4 * l0, l0, runs, runs]
+}
+
+fn is_whole(j: &Jobs) -> bool {
+    let (rows, entries) = (JOBS, SOURCES);
+    lengths(&jobs(j)) == [2 * rows, 2 * rows, 3 * rows, entries, entries, 2 * entries]
+}
+
+/// Whether a reader with so many places has room.
+fn fits(slices: &[Slice], places: &[usize]) -> bool {
+    let lengths = lengths(slices);
+    lengths
+        .iter()
+        .zip(places)
+        .all(|(length, most)| length <= most)
+}
+
+fn fits_alone(spec: &LoneSpec) -> bool {
+    fits(&sources(&spec.sources), &[ALONE, ALONE, 2 * ALONE])
+}
+
+/// Whether every table is lent at its capacity, and a plan and a spec at most at what the reader has for them.
 pub fn is_sayable(case: &Case) -> bool {
-    let lengths = |slices: Vec<Slice>| -> Vec<usize> {
-        slices.iter().map(|slice| slice.numbers.len()).collect()
-    };
-    let whole_trees = |t: &Trees| {
-        let (rows, l0, runs) = (TREES, L0_ROWS, RUNS);
-        lengths(trees(t)) == [3 * rows, 2 * rows, 4 * rows, 4 * l0, l0, runs, runs]
-    };
-    let whole_jobs = |j: &Jobs| {
-        let (rows, entries) = (JOBS, SOURCES);
-        lengths(jobs(j)) == [2 * rows, 2 * rows, 3 * rows, entries, entries, 2 * entries]
-    };
-    let fits = |slices: Vec<Slice>, places: &[usize]| {
-        let lengths = lengths(slices);
-        lengths
-            .iter()
-            .zip(places)
-            .all(|(length, most)| length <= most)
-    };
     match case {
         Case::Plan {
             trees,
@@ -132,28 +144,16 @@ pub fn is_sayable(case: &Case) -> bool {
             ..
         } => {
             let places = [3 * JOBS, SOURCES, SOURCES, 2 * SOURCES];
-            whole_trees(trees) && whole_jobs(jobs) && fits(plan(p), &places)
+            are_whole(trees) && is_whole(jobs) && fits(&plan(p), &places)
         }
-        Case::Validate { trees, spec } => whole_trees(trees) && fits_alone(spec),
-        Case::Add { jobs, job } => whole_jobs(jobs) && fits_alone(&job.spec),
-        Case::Merge { local, remote } => whole_jobs(local) && whole_jobs(remote),
-        Case::Retain { jobs } => whole_jobs(jobs),
+        Case::Validate { trees, spec } => are_whole(trees) && fits_alone(spec),
+        Case::Add { jobs, job } => is_whole(jobs) && fits_alone(&job.spec),
+        Case::Merge { local, remote } => is_whole(local) && is_whole(remote),
+        Case::Retain { jobs } => is_whole(jobs),
         Case::Finish { trees, jobs, .. } | Case::Drain { trees, jobs, .. } => {
-            whole_trees(trees) && whole_jobs(jobs)
+            are_whole(trees) && is_whole(jobs)
         }
     }
-}
-
-/// The places that a reader has for the sources of a spec by itself.
-const ALONE: usize = 1100;
-
-fn fits_alone(spec: &LoneSpec) -> bool {
-    let places = [ALONE, ALONE, 2 * ALONE];
-    let slices = sources(&spec.sources);
-    slices
-        .iter()
-        .zip(places)
-        .all(|(slice, most)| slice.numbers.len() <= most)
 }
 
 /// A line that grows.

@@ -27,7 +27,7 @@ fn lines() -> Result<Vec<String>, String> {
     let mut lines = Vec::new();
     for figure in figures::all() {
         if flat::is_sayable(&figure.case) {
-            lines.push(told(&figure.case)?.1);
+            lines.push(told(&figure.case, judge(&figure.case))?);
         }
     }
     for (kind, answered, longest) in ANSWERED {
@@ -57,19 +57,21 @@ fn small(
     let mut said = BTreeSet::new();
     for _ in 0..DRAWN {
         let case = draw::recordable(&mut rng, kind);
-        if !flat::is_sayable(&case) {
-            continue;
-        }
-        let (answer, line) = told(&case)?;
-        let count = met.entry(sort_of(answer)).or_default();
-        let most = match sort_of(answer) {
+        let judged = judge(&case);
+        let sort = sort_of(judged.answer);
+        let most = match sort {
             Answer::Refused(_) | Answer::SegmentMissing | Answer::Planned { specs: 0, .. } => {
                 OTHERS
             }
             _ => answered,
         };
-        if *count < most && line.len() <= longest && said.insert(line.clone()) {
-            *count += 1;
+        let count = met.get(&sort).copied().unwrap_or_default();
+        if count == most || !flat::is_sayable(&case) {
+            continue;
+        }
+        let line = told(&case, judged)?;
+        if line.len() <= longest && said.insert(line.clone()) {
+            met.insert(sort, count + 1);
             lines.push(line);
         }
     }
@@ -88,9 +90,13 @@ fn full(
     let mut rng = rng::Rng::new(1);
     let mut shortest: Option<String> = None;
     for _ in 0..FULL {
-        let (answer, line) = told(&draw::full(&mut rng, kind))?;
-        let shorter = shortest.as_ref().is_none_or(|old| line.len() < old.len());
-        if answer == Answer::Refused(14) && shorter {
+        let case = draw::full(&mut rng, kind);
+        let judged = judge(&case);
+        if judged.answer != Answer::Refused(14) {
+            continue;
+        }
+        let line = told(&case, judged)?;
+        if shortest.as_ref().is_none_or(|old| line.len() < old.len()) {
             shortest = Some(line);
         }
     }
@@ -113,19 +119,14 @@ fn sort_of(answer: Answer) -> Answer {
     }
 }
 
-/// The answer, and the line that says it.
-fn told(case: &Case) -> Result<(Answer, String), String> {
-    let Judged {
-        answer,
-        after,
-        verdict,
-    } = judge(case);
-    let theirs = match verdict {
+/// The line that says a case and what was judged of it.
+fn told(case: &Case, judged: Judged) -> Result<String, String> {
+    let theirs = match judged.verdict {
         Verdict::Same => true,
         Verdict::Known(_) => false,
         Verdict::Unknown(what) => return Err(format!("{case:?}: {what}")),
     };
-    Ok((answer, flat::line(case, answer, &after, theirs)))
+    Ok(flat::line(case, judged.answer, &judged.after, theirs))
 }
 
 /// The whole file: each line behind its length, which counts the line's end.
