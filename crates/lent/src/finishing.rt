@@ -19,7 +19,7 @@ pub struct Left {
 }
 
 // The jobs with other marks.
-fn with_marks(jobs: Jobs, marks: [u8; 128]) -> Jobs {
+pub fn with_marks(jobs: Jobs, marks: [u8; 128]) -> Jobs {
     let mut after = jobs;
     after.marks = marks;
     after

@@ -6,6 +6,7 @@ use crate::reader::count;
 use crate::unused::half_of;
 use crate::unused::word_of;
 use crate::words;
+use lent::finishing::with_marks;
 use lent::jobs::Jobs;
 
 // The byte that unused places hold, the count, and the six slices.
@@ -85,13 +86,11 @@ pub fn change_jobs(s: &[u8], at: &mut usize, jobs: Jobs) -> Jobs {
     }
 }
 
-// The jobs with other marks, as finish and drain leave them.
+// Jobs with the changes of their marks that are written here, which are all that finish and drain may change.
 pub fn change_marks(s: &[u8], at: &mut usize, jobs: Jobs) -> Jobs {
     let mut marks = jobs.marks;
     bytes::change(s, at, &mut marks);
-    let mut after = jobs;
-    after.marks = marks;
-    after
+    with_marks(jobs, marks)
 }
 
 // Jobs against those whose tables are lent one by one.
