@@ -1,0 +1,12 @@
+use borrow.Author.Rules.{rules}
+use Prim.Native.Nat.{◌+◌, ◌-◌, ◌*◌, ◌≤◌}
+use mathlib.Core.Path.{◌∙◌}
+use lib.ListN.{get_or}
+use Rattle.rows.proofs.Sums.{Summed, sum-starts, sum-next, sum-ends}
+use Rattle.rows.proofs.bounds.column_sum.Given as goal
+
+abbrev pub invariant-loop-i : goal.invariant-loop-i
+invariant-loop-i l = (l.i ≤ l.n) × (l.sum ≤ 4294967295 * l.i) × Summed (λ j. get_or l.s (3 * j + l.k) 0) l.n l.sum l.i
+
+abbrev pub decreases-loop-i : goal.decreases-loop-i
+decreases-loop-i l = l.n - l.i

@@ -1,0 +1,23 @@
+-- `find_run` meets its contract: the invariant is that none of the rows so far has the id (`Sought`).
+use borrow.Author.Rules.{rules}
+use borrow.Author.Tests.{eq-eqb, ne_eqb}
+use mathlib.Core.Bool.{not}
+use Prim.Native.Nat.{◌-◌}
+use lib.Dec.{eqb}
+use lib.ListN.{get_or}
+use Rattle.rules.specs.Lists.{leading}
+use Rattle.rules.specs.Lent.{rows_from}
+use Rattle.rows.proofs.Finds.{Sought, seek-starts-at, seek-on, seek_found, seek-ends}
+use Rattle.rows.proofs.find.find_run.Goals as goal
+
+pub loop-i-init : goal.loop-i-init
+loop-i-init c = seek-starts-at _ c.requires.0
+
+pub returns-then-run_ids-i : goal.returns-then-run_ids-i
+returns-then-run_ids-i c = seek_found c.loop-i.invariant c.loop-i-test.true (eq-eqb _ _ c.if-run_ids-i.true)
+
+pub loop-i-preserved : goal.loop-i-preserved
+loop-i-preserved c = seek-on c.loop-i.invariant c.loop-i-test.true (ne_eqb _ _ c.if-run_ids-i.false)
+
+pub returns : goal.returns
+returns c = seek-ends c.loop-i.invariant c.loop-i-test.false

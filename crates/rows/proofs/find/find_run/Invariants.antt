@@ -1,0 +1,17 @@
+use borrow.Author.Rules.{rules}
+use borrow.Author.Tests.{eq-eqb, ne_eqb}
+use mathlib.Core.Bool.{not}
+use Prim.Native.Nat.{◌-◌}
+use lib.Dec.{eqb}
+use lib.ListN.{get_or}
+use Rattle.rules.specs.Lists.{leading}
+use Rattle.rules.specs.Lent.{rows_from}
+use Rattle.rows.proofs.Finds.{Sought, seek-starts-at, seek-on, seek_found, seek-ends}
+use Rattle.rows.proofs.find.find_run.Given as goal
+
+abbrev pub invariant-loop-i : goal.invariant-loop-i
+invariant-loop-i l =
+    Sought (λ x. eqb x l.id) (λ k. get_or l.run_ids k 0) l.to l.from l.i (leading (λ x. not (eqb x l.id)) (rows_from (λ k. get_or l.run_ids k 0) l.from (l.to - l.from)))
+
+abbrev pub decreases-loop-i : goal.decreases-loop-i
+decreases-loop-i l = l.to - l.i

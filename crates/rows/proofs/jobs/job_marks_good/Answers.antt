@@ -1,0 +1,28 @@
+-- `job_marks_good` meets its contract: the invariant is that the test of the jobs left is the test of all (`Left`).
+use borrow.Author.Rules.{rules}
+use borrow.Author.Tests.{le-leb, lt-leb}
+use Prim.Native.Nat.{◌-◌}
+use Rattle.rules.specs.Lists.{all}
+use Rattle.rules.specs.Lent.{rows_from}
+use Rattle.rows.specs.Shape.{good_marks_at}
+use Rattle.rows.proofs.Scans.{Left, scan-starts, scan-next, scan-stops, scan-ends}
+use Rattle.rows.proofs.jobs.job_marks_good.Goals as goal
+
+pub loop-i-init : goal.loop-i-init
+loop-i-init c = scan-starts
+
+pub returns-then-job_marks-i-gt5 : goal.returns-then-job_marks-i-gt5
+unfolding all
+returns-then-job_marks-i-gt5 c = scan-stops c.loop-i.invariant c.loop-i-test.true (rw (lt-leb _ _ c.if-job_marks-i-gt5.true))
+
+pub returns-then-job_marks-i-gt1 : goal.returns-then-job_marks-i-gt1
+unfolding all
+returns-then-job_marks-i-gt1 c = scan-stops c.loop-i.invariant c.loop-i-test.true (rw (le-leb _ _ c.if-job_marks-i-gt5.false, lt-leb _ _ c.if-job_marks-i-gt1.true))
+
+pub loop-i-preserved : goal.loop-i-preserved
+unfolding all
+loop-i-preserved c = scan-next c.loop-i.invariant c.loop-i-test.true (rw (le-leb _ _ c.if-job_marks-i-gt5.false, le-leb _ _ c.if-job_marks-i-gt1.false))
+
+pub returns : goal.returns
+unfolding all
+returns c = scan-ends c.loop-i.invariant c.loop-i-test.false

@@ -1,0 +1,18 @@
+use borrow.Author.Rules.{rules}
+use borrow.Author.Tests.{not-true, not-false}
+use mathlib.Core.Path.{sym, ◌∙◌}
+use Prim.Native.Nat.{◌-◌, ◌*◌}
+use native.Mathlib.Omega.{arith}
+use Rattle.rules.specs.Lists.{linked}
+use Rattle.rules.specs.Tables.{ulid_below}
+use Rattle.rules.specs.Lent.{rows_from, ulid_at}
+use Rattle.rows.proofs.Scans.{Left, scan-starts, scan-ends}
+use Rattle.rows.proofs.Order.{link-last, link_on, link-breaks}
+use Rattle.rows.proofs.shape.rising.Given as goal
+
+abbrev pub invariant-loop-i : goal.invariant-loop-i
+invariant-loop-i l =
+    Left (linked ulid_below) (λ k. ulid_at l.job_ids (2 * k)) l.n l.i (linked ulid_below (rows_from (λ k. ulid_at l.job_ids (2 * k)) 0 l.n))
+
+abbrev pub decreases-loop-i : goal.decreases-loop-i
+decreases-loop-i l = l.n - l.i

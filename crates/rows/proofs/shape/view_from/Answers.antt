@@ -1,0 +1,24 @@
+-- `view_from` meets its contract: the invariant is that the test of the rows left is the test of all (`Left`).
+use borrow.Author.Rules.{rules}
+use mathlib.Core.Path.{sym, ◌∙◌}
+use Prim.Native.Nat.{◌-◌, ◌*◌}
+use Rattle.rules.specs.Lists.{any}
+use Rattle.rules.specs.Tables.{same_ulid}
+use Rattle.rules.specs.Lent.{rows_from, ulid_at}
+use Rattle.rows.proofs.Scans.{Left, scan-starts-at, scan-next, scan-stops, scan-ends}
+use Rattle.rows.proofs.shape.view_from.Goals as goal
+
+pub loop-i-init : goal.loop-i-init
+loop-i-init c = scan-starts-at
+
+pub returns-then-same_ulid : goal.returns-then-same_ulid
+unfolding any
+returns-then-same_ulid c = scan-stops c.loop-i.invariant c.loop-i-test.true (rw (sym c.same_ulid.ensures ∙ c.if-same_ulid.true))
+
+pub loop-i-preserved : goal.loop-i-preserved
+unfolding any
+loop-i-preserved c = scan-next c.loop-i.invariant c.loop-i-test.true (rw (sym c.same_ulid.ensures ∙ c.if-same_ulid.false))
+
+pub returns : goal.returns
+unfolding any
+returns c = scan-ends c.loop-i.invariant c.loop-i-test.false

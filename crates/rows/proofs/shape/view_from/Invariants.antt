@@ -1,0 +1,15 @@
+use borrow.Author.Rules.{rules}
+use mathlib.Core.Path.{sym, ◌∙◌}
+use Prim.Native.Nat.{◌-◌, ◌*◌}
+use Rattle.rules.specs.Lists.{any}
+use Rattle.rules.specs.Tables.{same_ulid}
+use Rattle.rules.specs.Lent.{rows_from, ulid_at}
+use Rattle.rows.proofs.Scans.{Left, scan-starts-at, scan-next, scan-stops, scan-ends}
+use Rattle.rows.proofs.shape.view_from.Given as goal
+
+abbrev pub invariant-loop-i : goal.invariant-loop-i
+invariant-loop-i l =
+    Left (any (same_ulid (record { high = l.high; low = l.low }))) (λ k. ulid_at l.l0_ids (4 * k)) l.n l.i (any (same_ulid (record { high = l.high; low = l.low })) (rows_from (λ k. ulid_at l.l0_ids (4 * k)) l.from (l.n - l.from)))
+
+abbrev pub decreases-loop-i : goal.decreases-loop-i
+decreases-loop-i l = l.n - l.i

@@ -1,0 +1,24 @@
+-- `views_distinct` meets its contract: the invariant is that the rows left are distinct exactly if all are (`Left`).
+use borrow.Author.Rules.{rules}
+use mathlib.Core.Path.{sym, ◌∙◌}
+use Prim.Native.Nat.{◌-◌, ◌*◌}
+use Rattle.rules.specs.Lists.{distinct}
+use Rattle.rules.specs.Tables.{same_ulid}
+use Rattle.rules.specs.Lent.{rows_from, ulid_at}
+use Rattle.rows.proofs.Scans.{Left, scan-starts, scan-next, scan-stops, scan-ends}
+use Rattle.rows.proofs.shape.views_distinct.Goals as goal
+
+pub loop-i-init : goal.loop-i-init
+loop-i-init c = scan-starts
+
+pub returns-then-view_from : goal.returns-then-view_from
+unfolding distinct
+returns-then-view_from c = scan-stops c.loop-i.invariant c.loop-i-test.true (rw (sym c.view_from.ensures ∙ c.if-view_from.true))
+
+pub loop-i-preserved : goal.loop-i-preserved
+unfolding distinct
+loop-i-preserved c = scan-next c.loop-i.invariant c.loop-i-test.true (rw (sym c.view_from.ensures ∙ c.if-view_from.false))
+
+pub returns : goal.returns
+unfolding distinct
+returns c = scan-ends c.loop-i.invariant c.loop-i-test.false
