@@ -2,7 +2,7 @@
 
 // "The options stay one record with the float threshold in it."
 #[repr(C)]
-#[derive(Drop)]
+#[derive(Clone, Copy)]
 pub struct Options {
     pub min: u32,
     pub max: u32,

@@ -8,27 +8,11 @@ use Rattle.rules.proofs.Digits.{size-gt}
 use Rattle.rules.proofs.Rounding.{dropped-le, kept-le, single-value}
 use Rattle.size_limit.specs.Ends.{RoundedIn}
 use Rattle.size_limit.proofs.Pattern.{pattern, pattern-no-nan}
-use Rattle.size_limit.proofs.rounding.nearest_single.Statement.{statement}
-use Rattle.size_limit.proofs.rounding.nearest_single.Tie as tie
+use Rattle.size_limit.proofs.rounding.nearest_single.Goals as goal
 
 -- what is the nearest single is worth what it has to be
 rounded-in : (s : ℕ) (x : Float) → s < 2 ^ 64 → x ≡ of_int binary32 (pos s) → RoundedIn s x
 rounded-in s x h e = record { is = e; worth = subst (λ (y : Float). HasValue y false (single_of s) 1) (sym e) (single-value s h) }
-
-int-to-float-result : tie.Need-int-to-float-result
-unfolding in_float
-int-to-float-result c = le→leb c.before.before.args.s (2 ^ 24) (le_of_lt c.before.if1.true)
-
-returns : tie.Need-returns
-returns c =
-    let b = c.before.before in
-    rounded-in b.args.s (of_int binary32 (pos b.args.s)) b.ranges.s.fits refl
-
-dropped-requires : tie.Need-dropped-requires
-dropped-requires c κs = search rules
-
-kept-requires : tie.Need-kept-requires
-kept-requires c κs = c.dropped.ensures
 
 -- once both calls have returned
 module _ (c : tie.After-kept) where
@@ -53,33 +37,29 @@ module _ (c : tie.After-kept) where
   short : q ≤ 2 ^ 24
   short = omega (arith, c.kept.ensures, kept-le s)
 
-add-result : tie.Need-overflow-add-result
-add-result c = omega (arith, few c)
+pub int_to_float-result : goal.int_to_float-result
+unfolding in_float
+int_to_float-result c = le→leb c.args.s (2 ^ 24) (le_of_lt c.if-s-lt-TWO_TO_24.true)
 
-cast-result : tie.Need-overflow-cast-result
-cast-result c = omega (arith, short c)
+pub returns-then-s-lt-TWO_TO_24 : goal.returns-then-s-lt-TWO_TO_24
+returns-then-s-lt-TWO_TO_24 c = rounded-in c.args.s (of_int binary32 (pos c.args.s)) c.ranges.s.fits refl
 
-add-result-2 : tie.Need-overflow-add-result-2
-add-result-2 c = omega (arith, few c, short c)
+pub kept-q-requires : goal.kept-q-requires
+kept-q-requires c = c.dropped-e.ensures
 
-float-from-bits-result : tie.Need-float-from-bits-result
-float-from-bits-result c = pattern-no-nan (s c) (e c) (q c) (fits c) (long c) c.before.dropped.ensures c.kept.ensures
+pub overflow_add-result : goal.overflow_add-result
+overflow_add-result c = omega (arith, few c)
 
-returns-2 : tie.Need-returns-2
-returns-2 c =
+pub overflow_cast-result : goal.overflow_cast-result
+overflow_cast-result c = omega (arith, short c)
+
+pub overflow_add-result-2 : goal.overflow_add-result-2
+overflow_add-result-2 c = omega (arith, few c, short c)
+
+pub float_from_bits-result : goal.float_from_bits-result
+float_from_bits-result c = pattern-no-nan (s c) (e c) (q c) (fits c) (long c) c.dropped-e.ensures c.kept-q.ensures
+
+pub returns : goal.returns
+returns c =
     rounded-in (s c) (of_bits binary32 ((e c + 149) * 2 ^ 23 % 2 ^ 32 + q c)) (fits c)
-    (pattern (s c) (e c) (q c) (fits c) (long c) c.before.dropped.ensures c.kept.ensures)
-
-pub nearest-single-spec : {M : Type 1} → statement M
-nearest-single-spec =
-    tie.close
-    (tie.spec
-    int-to-float-result
-    returns
-    dropped-requires
-    kept-requires
-    add-result
-    cast-result
-    add-result-2
-    float-from-bits-result
-    returns-2)
+    (pattern (s c) (e c) (q c) (fits c) (long c) c.dropped-e.ensures c.kept-q.ensures)

@@ -1,0 +1,65 @@
+-- `keep_jobs` meets its contract: each mover keeps the rows that its flags say (`keeps-jobs`), and they fit.
+use borrow.Author.Rules.{rules}
+use Rattle.rules.specs.Lent.{lent_jobs}
+use Rattle.job_rows.proofs.Fitting.{ids-fit, marks-fit, specs-fit, entries_fit, flags-fit, source-marks-fit, source-runs-fit, source-views-fit}
+use Rattle.job_rows.proofs.Keeping.{keeps-jobs}
+use Rattle.job_rows.proofs.keep.keep_jobs.Goals as goal
+
+pub mark_entries-used-requires : goal.mark_entries-used-requires
+mark_entries-used-requires c = (c.requires.0.jobs, specs-fit c.requires.0, c.requires.1, entries_fit c.requires.0)
+
+pub keep_rows-requires : goal.keep_rows-requires
+keep_rows-requires c = (flags-fit c.requires.0 c.mark_entries-used.ensures.0 c.mark_entries-used.auto.1.1.1.0, source-marks-fit c.requires.0 c.mark_entries-used.ensures.0)
+
+pub keep_rows-requires-2 : goal.keep_rows-requires-2
+keep_rows-requires-2 c = (flags-fit c.requires.0 c.mark_entries-used.ensures.0 c.mark_entries-used.auto.1.1.1.0, source-runs-fit c.requires.0 c.mark_entries-used.ensures.0)
+
+pub keep_rows-requires-3 : goal.keep_rows-requires-3
+keep_rows-requires-3 c = (flags-fit c.requires.0 c.mark_entries-used.ensures.0 c.mark_entries-used.auto.1.1.1.0, source-views-fit c.requires.0 c.mark_entries-used.ensures.0)
+
+pub keep_rows-requires-4 : goal.keep_rows-requires-4
+keep_rows-requires-4 c = (c.requires.1, ids-fit c.requires.0)
+
+pub keep_rows-requires-5 : goal.keep_rows-requires-5
+keep_rows-requires-5 c = (c.requires.1, marks-fit c.requires.0)
+
+pub keep_rows-requires-6 : goal.keep_rows-requires-6
+keep_rows-requires-6 c = (c.requires.1, specs-fit c.requires.0)
+
+pub count_marked-requires : goal.count_marked-requires
+count_marked-requires c = c.requires.1
+
+pub shape_of-job_ids : goal.shape_of-job_ids
+shape_of-job_ids c = c.keep_rows-4.auto.0
+
+pub shape_of-job_marks : goal.shape_of-job_marks
+shape_of-job_marks c = c.keep_rows-5.auto.0
+
+pub shape_of-job_specs : goal.shape_of-job_specs
+shape_of-job_specs c = c.keep_rows-6.auto.0
+
+pub shape_of-source_marks : goal.shape_of-source_marks
+shape_of-source_marks c = c.keep_rows.auto.0
+
+pub shape_of-source_runs : goal.shape_of-source_runs
+shape_of-source_runs c = c.keep_rows-2.auto.0
+
+pub shape_of-source_views : goal.shape_of-source_views
+shape_of-source_views c = c.keep_rows-3.auto.0
+
+pub returns : goal.returns
+returns c =
+    keeps-jobs
+    (lent_jobs c.args.job_count c.args.job_ids.now c.args.job_marks.now c.args.job_specs.now c.args.source_marks.now c.args.source_runs.now c.args.source_views.now)
+    c.args.staying.now
+    c.requires
+    _
+    _
+    c.mark_entries-used.ensures
+    c.keep_rows.ensures
+    c.keep_rows-2.ensures
+    c.keep_rows-3.ensures
+    c.keep_rows-4.ensures
+    c.keep_rows-5.ensures
+    c.keep_rows-6.ensures
+    c.count_marked.ensures

@@ -1,0 +1,12 @@
+use Rattle.std.proofs.Common.{◌≡◌, ℕ, suc, ◌+◌, ◌-◌, ◌<◌, arith}
+use lib.Ieee.{size}
+use lib.Ieee.Digits.{size-le}
+use Rattle.rules.specs.Limit.{dropped}
+use Rattle.rules.proofs.Digits.{size-gt, size-half}
+use Rattle.size_limit.proofs.rounding.dropped.Given as goal
+
+abbrev pub invariant-loop-q : goal.invariant-loop-q
+invariant-loop-q l = (size l.q - 24) + l.e ≡ size l.s - 24
+
+abbrev pub decreases-loop-q : goal.decreases-loop-q
+decreases-loop-q l = l.q
