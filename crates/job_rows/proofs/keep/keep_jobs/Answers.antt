@@ -29,24 +29,6 @@ keep_rows-requires-6 c = (c.requires.1, specs-fit c.requires.0)
 pub count_marked-requires : goal.count_marked-requires
 count_marked-requires c = c.requires.1
 
-pub shape_of-job_ids : goal.shape_of-job_ids
-shape_of-job_ids c = c.keep_rows-4.auto.0
-
-pub shape_of-job_marks : goal.shape_of-job_marks
-shape_of-job_marks c = c.keep_rows-5.auto.0
-
-pub shape_of-job_specs : goal.shape_of-job_specs
-shape_of-job_specs c = c.keep_rows-6.auto.0
-
-pub shape_of-source_marks : goal.shape_of-source_marks
-shape_of-source_marks c = c.keep_rows.auto.0
-
-pub shape_of-source_runs : goal.shape_of-source_runs
-shape_of-source_runs c = c.keep_rows-2.auto.0
-
-pub shape_of-source_views : goal.shape_of-source_views
-shape_of-source_views c = c.keep_rows-3.auto.0
-
 pub returns : goal.returns
 returns c =
     keeps-jobs

@@ -18,8 +18,5 @@ overflow_add-at c = omega (arith, marking-room c.loop-i.invariant c.loop-i-test.
 pub loop-i-preserved : goal.loop-i-preserved
 loop-i-preserved c = marking-next c.loop-i.invariant c.loop-i-test.true c.wide-n.ensures c.fill.ensures
 
-pub shape_of-flags : goal.shape_of-flags
-shape_of-flags c = c.loop-i.invariant.kept
-
 pub returns : goal.returns
 returns c = marking-ends c.loop-i.invariant c.loop-i-test.false
