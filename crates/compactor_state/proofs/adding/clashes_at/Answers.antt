@@ -1,5 +1,4 @@
 -- `clashes_at` meets its contract: each return settles one part of `clash_at`, in its order.
-use borrow.Author.Rules.{rules}
 use lib.Dec.{eqb}
 use lib.ListN.{get_or}
 use Prim.Native.Nat.{◌*◌}

@@ -1,13 +1,10 @@
 -- `job_marks_good` meets its contract: the invariant is that the test of the jobs left is the test of all (`Left`).
-use borrow.Author.Rules.{rules}
 use borrow.Author.Tests.{le-leb, lt-leb}
 use Prim.Native.Nat.{◌*◌}
 use lib.ListN.{get_or}
 use native.Mathlib.Omega.{arith}
 use Rattle.rules.specs.Lists.{all}
-use Rattle.rules.specs.Lent.{rows_from}
-use Rattle.rows.specs.Shape.{good_marks_at}
-use Rattle.rows.proofs.Scans.{Left, scan-starts, scan-next, scan-stops, scan-ends}
+use Rattle.rows.proofs.Scans.{scan-starts, scan-next, scan-stops, scan-ends}
 use Rattle.rows.proofs.jobs.job_marks_good.Goals as goal
 
 pub loop-i-init : goal.loop-i-init

@@ -1,6 +1,4 @@
 -- `trees_refusal` meets its contract: 1, then 2, as `trees_refusal` has them; the rules on trees are read off the slices by `flat-trees`.
-use borrow.Author.Rules.{rules}
-use borrow.Author.Tests.{not-true, not-false}
 use mathlib.Core.Path.{◌≡◌, refl, sym, ◌∙◌}
 use mathlib.Core.Bool.{false}
 use Rattle.rules.specs.Lent.{LentTrees, lent_trees, l0_used, runs_used}
