@@ -50,8 +50,8 @@ module _ (marks runs views : List ℕ) (s c : ℕ) (m : s + c ≤ length marks) 
       (get_or-take (g - f) (drop f views) (2 * i + 1) 0 (omega arith) ∙ get_or-drop f views (2 * i + 1) 0 ∙ ap (λ (n : ℕ). get_or views n 0) (omega arith)))))
 
 -- a job without a flag is left
-pub took-none : {l r : LentJobs} {flags : List ℕ} {i at : ℕ} → get_or flags i 0 ≡ 0 → Took l r flags i at l
-took-none {l} {r} {flags} {i} {at} e = record { left = λ no. refl; put = λ has. absurd (true≢false (sym has ∙ ap marked e)) }
+pub took_none : {l r : LentJobs} {flags : List ℕ} {i at : ℕ} → get_or flags i 0 ≡ 0 → Took l r flags i at l
+took_none {l} {r} {flags} {i} {at} e = record { left = λ no. refl; put = λ has. absurd (true≢false (sym has ∙ ap marked e)) }
 
 has-flag : (n : ℕ) → (n ≡ 0 → ⊥) → marked n ≡ true
 has-flag zero h = absurd (h refl)

@@ -5,6 +5,7 @@ ghost use Rattle.rules.specs.Lent.{rows_from};
 ghost use Rattle.compactor_state.specs.Clash.{clash_at};
 
 // Whether job `i` clashes with a drain of this prefix, or with a tiered job of this destination.
+#[tactic(auto, unfolding(crate::specs::Clash::clash_at))]
 fn clashes_at(
     job_marks: &[u8],
     job_specs: &[u32],

@@ -18,6 +18,7 @@ use rows::jobs::jobs_refusal;
 use rules::JobsAnswer;
 
 // Takes remote job `i`, whose entries begin at entry `at`, if it has a flag: "remote record taken whole when adopted".
+#[tactic(auto, using(crate::proofs::Taking::took_none))]
 fn take_at(
     job_count: usize,
     job_ids: &mut [u64],

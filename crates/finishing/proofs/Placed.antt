@@ -57,9 +57,9 @@ module _ (run_ids : List ℕ) (used first runs : ℕ) (kept : List ℕ) (n : ℕ
     stay = same ∙ counted ∙ ap (λ (m : ℕ). length (keep marked (take m kept))) (sub-zero used)
 
     -- 14
-    pub place-full : max_runs ≤ v → Refused 14 ≡ place_in run_ids used first runs kept n
+    pub place_full : max_runs ≤ v → Refused 14 ≡ place_in run_ids used first runs kept n
     unfolding place_in
-    place-full l = rw (sym e ∙ h, le-leb max_runs (length (keep marked (take used kept))) (rw stay at l))
+    place_full l = rw (sym e ∙ h, le-leb max_runs (length (keep marked (take used kept))) (rw stay at l))
 
     pub place-there : v < max_runs → {m x y : ℕ} → m ≡ old_place run_ids first runs n → y ≡ length (keep marked (take (first + m - first) (drop first kept))) → x ≡ y → At (first + x) ≡ place_in run_ids used first runs kept n
     unfolding place_in

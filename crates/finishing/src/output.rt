@@ -46,6 +46,7 @@ pub enum Place {
 }
 
 // "13, 14", for a tree whose runs are `runs` runs from run `first` on; `used` runs are in use, and `kept` flags those that stay.
+#[tactic(auto, using(crate::proofs::Placed::place_full))]
 pub fn place_output(
     run_ids: &[u32],
     used: usize,

@@ -36,6 +36,7 @@ pub fn column_sum(s: &[u32], k: usize, n: usize) -> usize
     sum
 }
 
+#[tactic(auto, unfolding(rules::specs::Bounds::trees_outside, rules::specs::Lent::l0_used, rules::specs::Lent::runs_used))]
 pub fn trees_outside(count: usize, trees: &[u32]) -> bool
     ensures { (t : LentTrees) → t.count ≡ count → t.trees ≡ trees.now → result ≡ trees_outside t }
 {

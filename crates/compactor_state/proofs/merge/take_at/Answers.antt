@@ -3,11 +3,8 @@ use native.Mathlib.Omega.{arith}
 use mathlib.Core.Path.{refl, ap}
 use Prim.Native.Nat.{ℕ, ◌+◌}
 use Rattle.rules.specs.Lent.{LentJobs, lent_jobs}
-use Rattle.compactor_state.proofs.Taking.{took-none, part_room, part-put}
+use Rattle.compactor_state.proofs.Taking.{took_none, part_room, part-put}
 use Rattle.compactor_state.proofs.merge.take_at.Goals as goal
-
-pub returns-then-taken-i-eq0 : goal.returns-then-taken-i-eq0
-returns-then-taken-i-eq0 c = took-none c.if-taken-i-eq0.true
 
 pub offset_bounds-remote_source_views-from : goal.offset_bounds-remote_source_views-from
 offset_bounds-remote_source_views-from c = omega (arith, c.requires.entries)
