@@ -2,7 +2,7 @@
 // writes for each class how many agree. A case that differs is written out, followed by the answer of the limit.
 ghost use Rattle.std.specs.Prelude.{◌≤◌};
 
-use hex::{narrow, number, threshold_of};
+use hex_text::{narrow, number, threshold_of};
 use libc::{STDIN_FILENO, STDOUT_FILENO};
 
 fn next(line: &mut [u8; 43]) -> bool {

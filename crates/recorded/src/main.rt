@@ -44,7 +44,7 @@ fn next_length(length: &mut [u8; 9]) -> bool {
 }
 
 fn length_of(length: &[u8; 9]) -> usize {
-    hex::number(length, 0) as usize
+    hex_text::number(length, 0) as usize
 }
 
 // Takes the next line, and answers whether there was one.

@@ -1,4 +1,6 @@
 // Hexadecimal numbers in text, for the programs that read recorded answers.
+#![tactic(auto)]
+
 ghost use Rattle.std.specs.Prelude.{◌≡◌};
 
 fn wide(b: u8) -> u64
