@@ -9,13 +9,13 @@ pub mark_entries-used-requires : goal.mark_entries-used-requires
 mark_entries-used-requires c = (c.requires.0.jobs, specs-fit c.requires.0, c.requires.1, entries_fit c.requires.0)
 
 pub keep_rows-requires : goal.keep_rows-requires
-keep_rows-requires c = (flags-fit c.requires.0 c.mark_entries-used.ensures.0 c.mark_entries-used.auto.1.1.1.0, source-marks-fit c.requires.0 c.mark_entries-used.ensures.0)
+keep_rows-requires c = (flags-fit c.requires.0 c.mark_entries-used.ensures.0 c.mark_entries-used.auto.flags, source-marks-fit c.requires.0 c.mark_entries-used.ensures.0)
 
 pub keep_rows-requires-2 : goal.keep_rows-requires-2
-keep_rows-requires-2 c = (flags-fit c.requires.0 c.mark_entries-used.ensures.0 c.mark_entries-used.auto.1.1.1.0, source-runs-fit c.requires.0 c.mark_entries-used.ensures.0)
+keep_rows-requires-2 c = (flags-fit c.requires.0 c.mark_entries-used.ensures.0 c.mark_entries-used.auto.flags, source-runs-fit c.requires.0 c.mark_entries-used.ensures.0)
 
 pub keep_rows-requires-3 : goal.keep_rows-requires-3
-keep_rows-requires-3 c = (flags-fit c.requires.0 c.mark_entries-used.ensures.0 c.mark_entries-used.auto.1.1.1.0, source-views-fit c.requires.0 c.mark_entries-used.ensures.0)
+keep_rows-requires-3 c = (flags-fit c.requires.0 c.mark_entries-used.ensures.0 c.mark_entries-used.auto.flags, source-views-fit c.requires.0 c.mark_entries-used.ensures.0)
 
 pub keep_rows-requires-4 : goal.keep_rows-requires-4
 keep_rows-requires-4 c = (c.requires.1, ids-fit c.requires.0)

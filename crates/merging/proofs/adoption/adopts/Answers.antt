@@ -6,8 +6,5 @@ use lib.Dec.{eqb}
 use Rattle.merging.proofs.Adopted.{flat-is}
 use Rattle.merging.proofs.adoption.adopts.Goals as goal
 
--- TODO array-read-result
-array-read-result c = search rules
-
 pub returns : goal.returns
 returns c = ap (λ (x : ℕ). eqb x 1) (flat-is c.args.row c.args.remote c.requires.0 c.requires.1)

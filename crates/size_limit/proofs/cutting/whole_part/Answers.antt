@@ -4,34 +4,37 @@ use lib.Ieee.{Float, binary32, fits, to_bits}
 use Rattle.size_limit.proofs.Fields as fields
 use Rattle.size_limit.proofs.cutting.whole_part.Goals as goal
 
-module _ (c : tie.Start) where
-  abbrev x : Float
-  x = c.args.p
-
-  -- what owning an f32 tells: the format holds it
-  held : T (fits binary32 x)
-  held = subst T (sym c.well-formed.0.1) tt
-
-  exponent : (127 ≤ to_bits binary32 x / 2 ^ 23) × (to_bits binary32 x / 2 ^ 23 ≤ 190)
-  exponent = fields.exponent x held c.requires.0 c.requires.1
-
 pub float_to_bits-bits : goal.float_to_bits-bits
-float_to_bits-bits c = fields.is_no_nan (x c) (held c) c.requires.0 c.requires.1
+float_to_bits-bits c =
+    let held : T (fits binary32 c.args.p) = subst T (sym c.well_formed.0.1) tt in
+    fields.is_no_nan c.args.p held c.requires.0 c.requires.1
 
 pub overflow_cast-digits : goal.overflow_cast-digits
-overflow_cast-digits c = omega (arith, fields.digits (x c) (held c) c.requires.0 c.requires.1)
+overflow_cast-digits c =
+    let held : T (fits binary32 c.args.p) = subst T (sym c.well_formed.0.1) tt in
+    omega (arith, fields.digits c.args.p held c.requires.0 c.requires.1)
 
 pub overflow_shr-result : goal.overflow_shr-result
-overflow_shr-result c = omega (arith, exponent c.before)
+overflow_shr-result c =
+    let held : T (fits binary32 c.args.p) = subst T (sym c.well_formed.0.1) tt in
+    omega (arith, fields.exponent c.args.p held c.requires.0 c.requires.1)
 
 pub returns-then-exponent-le150 : goal.returns-then-exponent-le150
-returns-then-exponent-le150 c = fields.cut_down (x c.before) (held c.before) c.requires.0 c.requires.1 c.if-exponent-le150.true
+returns-then-exponent-le150 c =
+    let held : T (fits binary32 c.args.p) = subst T (sym c.well_formed.0.1) tt in
+    fields.cut_down c.args.p held c.requires.0 c.requires.1 c.if-exponent-le150.true
 
 pub overflow_cast-result-2 : goal.overflow_cast-result-2
-overflow_cast-result-2 c = omega (arith, exponent c.before)
+overflow_cast-result-2 c =
+    let held : T (fits binary32 c.args.p) = subst T (sym c.well_formed.0.1) tt in
+    omega (arith, fields.exponent c.args.p held c.requires.0 c.requires.1)
 
 pub overflow_shl-result : goal.overflow_shl-result
-overflow_shl-result c = omega (arith, exponent c.before)
+overflow_shl-result c =
+    let held : T (fits binary32 c.args.p) = subst T (sym c.well_formed.0.1) tt in
+    omega (arith, fields.exponent c.args.p held c.requires.0 c.requires.1)
 
 pub returns : goal.returns
-returns c = fields.cut_up (x c.before) (held c.before) c.requires.0 c.requires.1 c.if-exponent-le150.false
+returns c =
+    let held : T (fits binary32 c.args.p) = subst T (sym c.well_formed.0.1) tt in
+    fields.cut_up c.args.p held c.requires.0 c.requires.1 c.if-exponent-le150.false

@@ -1,22 +1,17 @@
 -- `kept` holds since its three ways out are those of `closest`: twice the remainder is under, over or at the unit.
-use Rattle.std.proofs.Common.{◌≡◌, ℕ, ◌-◌, ◌*◌, ◌%◌, ◌^◌, ◌≤◌, ap, ◌∙◌, arith, pow_pos}
+use Rattle.std.proofs.Common.{◌≡◌, ℕ, ◌-◌, ◌*◌, ◌%◌, ◌^◌, ◌≤◌, ap, ◌∙◌, Fits, w64, arith, pow_pos}
 use lib.Bits.{bit_and}
 use lib.Ieee.Nearest.{closest}
-use Rattle.rules.specs.Limit.{kept}
+use Rattle.rules.specs.Limit.{dropped, kept}
 use Rattle.rules.proofs.Nearest.{under, over, tie as even}
 use Rattle.rules.proofs.Rounding.{dropped-le}
 use Rattle.size_limit.proofs.Shifts.{unit, masked, small, room}
 use Rattle.size_limit.proofs.rounding.kept.Goals as goal
 
-module _ (c : tie.Start) where
-  abbrev s : ℕ
-  s = c.args.s
-
-  abbrev e : ℕ
-  e = c.args.e
-
+-- s, and how many digits it drops
+module _ (s e : ℕ) (drops : e ≡ dropped s) (fits : Fits w64 s) where
   few : e ≤ 40
-  few = omega (arith, c.requires, dropped-le s c.ranges.s.fits)
+  few = omega (arith, drops, dropped-le s fits.fits)
 
   -- the machine's numbers are the law's
   unit-is : 1 * 2 ^ e % 2 ^ 64 ≡ 2 ^ e
@@ -27,31 +22,31 @@ module _ (c : tie.Start) where
 
   is : closest s (2 ^ e) ≡ kept s
   unfolding kept
-  is = ap (λ (x : ℕ). closest s (2 ^ x)) c.requires
+  is = ap (λ (x : ℕ). closest s (2 ^ x)) drops
 
 pub overflow_shl-unit : goal.overflow_shl-unit
-overflow_shl-unit c = omega (arith, few c)
+overflow_shl-unit c = omega (arith, few c.args.s c.args.e c.requires c.ranges.s)
 
 pub overflow_shr-q : goal.overflow_shr-q
-overflow_shr-q c = omega (arith, few c)
+overflow_shr-q c = omega (arith, few c.args.s c.args.e c.requires c.ranges.s)
 
 pub overflow_sub-twice : goal.overflow_sub-twice
-overflow_sub-twice c = rw (unit-is c) (pow_pos (e c))
+overflow_sub-twice c = rw (unit-is c.args.s c.args.e c.requires c.ranges.s) (pow_pos c.args.e)
 
 pub overflow_mul-twice : goal.overflow_mul-twice
-overflow_mul-twice c = omega (arith, rest-is c, small (s c) (e c) (few c))
+overflow_mul-twice c = omega (arith, rest-is c.args.s c.args.e c.requires c.ranges.s, small c.args.s c.args.e (few c.args.s c.args.e c.requires c.ranges.s))
 
 pub returns-then-twice-unit : goal.returns-then-twice-unit
-returns-then-twice-unit c = under (s c.before) (2 ^ e c.before) (omega (arith, c.if-twice-unit.true, rest-is c.before, unit-is c.before)) ∙ is c.before
+returns-then-twice-unit c = under c.args.s (2 ^ c.args.e) (omega (arith, c.if-twice-unit.true, rest-is c.args.s c.args.e c.requires c.ranges.s, unit-is c.args.s c.args.e c.requires c.ranges.s)) ∙ is c.args.s c.args.e c.requires c.ranges.s
 
 pub overflow_add-result : goal.overflow_add-result
-overflow_add-result c = omega (arith, room (s c.before.before) (e c.before.before) (few c.before.before) (omega (arith, c.if-twice-unit-2.true, rest-is c.before.before, unit-is c.before.before)), c.ranges.s)
+overflow_add-result c = omega (arith, room c.args.s c.args.e (few c.args.s c.args.e c.requires c.ranges.s) (omega (arith, c.if-twice-unit-2.true, rest-is c.args.s c.args.e c.requires c.ranges.s, unit-is c.args.s c.args.e c.requires c.ranges.s)), c.ranges.s)
 
 pub returns-then-twice-unit-2 : goal.returns-then-twice-unit-2
-returns-then-twice-unit-2 c = over (s c.before.before) (2 ^ e c.before.before) (omega (arith, c.if-twice-unit-2.true, rest-is c.before.before, unit-is c.before.before)) ∙ is c.before.before
+returns-then-twice-unit-2 c = over c.args.s (2 ^ c.args.e) (omega (arith, c.if-twice-unit-2.true, rest-is c.args.s c.args.e c.requires c.ranges.s, unit-is c.args.s c.args.e c.requires c.ranges.s)) ∙ is c.args.s c.args.e c.requires c.ranges.s
 
 pub overflow_add-result-2 : goal.overflow_add-result-2
-overflow_add-result-2 c = omega (arith, room (s c.before.before) (e c.before.before) (few c.before.before) (omega (arith, c.if-twice-unit.false, pow_pos (e c.before.before), rest-is c.before.before, unit-is c.before.before)), c.ranges.s)
+overflow_add-result-2 c = omega (arith, room c.args.s c.args.e (few c.args.s c.args.e c.requires c.ranges.s) (omega (arith, c.if-twice-unit.false, pow_pos c.args.e, rest-is c.args.s c.args.e c.requires c.ranges.s, unit-is c.args.s c.args.e c.requires c.ranges.s)), c.ranges.s)
 
 pub returns : goal.returns
-returns c = even (s c.before.before) (2 ^ e c.before.before) (omega (arith, c.if-twice-unit.false, c.if-twice-unit-2.false, rest-is c.before.before, unit-is c.before.before)) ∙ is c.before.before
+returns c = even c.args.s (2 ^ c.args.e) (omega (arith, c.if-twice-unit.false, c.if-twice-unit-2.false, rest-is c.args.s c.args.e c.requires c.ranges.s, unit-is c.args.s c.args.e c.requires c.ranges.s)) ∙ is c.args.s c.args.e c.requires c.ranges.s

@@ -3,7 +3,7 @@
 use Rattle.std.proofs.Common.{◌≡◌, ℕ, ◌+◌, ◌*◌, ◌%◌, ◌^◌, ◌<◌, ◌≤◌, false, pos, sym, refl, subst, le_of_lt, arith, le→leb, rules}
 use lib.Ieee.{Float, binary32, size, in_float, of_bits, of_int}
 use lib.Ieee.Exact.{HasValue}
-use Rattle.rules.specs.Limit.{single_of}
+use Rattle.rules.specs.Limit.{dropped, kept, single_of}
 use Rattle.rules.proofs.Digits.{size-gt}
 use Rattle.rules.proofs.Rounding.{dropped-le, kept-le, single-value}
 use Rattle.size_limit.specs.Ends.{RoundedIn}
@@ -14,28 +14,16 @@ use Rattle.size_limit.proofs.rounding.nearest_single.Goals as goal
 rounded-in : (s : ℕ) (x : Float) → s < 2 ^ 64 → x ≡ of_int binary32 (pos s) → RoundedIn s x
 rounded-in s x h e = record { is = e; worth = subst (λ (y : Float). HasValue y false (single_of s) 1) (sym e) (single-value s h) }
 
--- once both calls have returned
-module _ (c : tie.After-kept) where
-  abbrev s : ℕ
-  s = c.before.before.before.args.s
-
-  abbrev e : ℕ
-  e = c.before.dropped.result
-
-  abbrev q : ℕ
-  q = c.kept.result
-
-  fits : s < 2 ^ 64
-  fits = c.before.before.before.ranges.s.fits
-
+-- once both calls have returned: s is not below 2 ^ 24, it drops e digits and keeps q
+module _ (s e q : ℕ) (high : 2 ^ 24 ≤ s) (fits : s < 2 ^ 64) (drops : e ≡ dropped s) (keeps : q ≡ kept s) where
   long : 24 ≤ size s
-  long = le_of_lt (size-gt s 24 c.before.before.if1.false)
+  long = le_of_lt (size-gt s 24 high)
 
   few : e ≤ 40
-  few = omega (arith, c.before.dropped.ensures, dropped-le s fits)
+  few = omega (arith, drops, dropped-le s fits)
 
   short : q ≤ 2 ^ 24
-  short = omega (arith, c.kept.ensures, kept-le s)
+  short = omega (arith, keeps, kept-le s)
 
 pub int_to_float-result : goal.int_to_float-result
 unfolding in_float
@@ -48,18 +36,18 @@ pub kept-q-requires : goal.kept-q-requires
 kept-q-requires c = c.dropped-e.ensures
 
 pub overflow_add-result : goal.overflow_add-result
-overflow_add-result c = omega (arith, few c)
+overflow_add-result c = omega (arith, few c.args.s c.dropped-e.result c.kept-q.result c.if-s-lt-TWO_TO_24.false c.ranges.s.fits c.dropped-e.ensures c.kept-q.ensures)
 
 pub overflow_cast-result : goal.overflow_cast-result
-overflow_cast-result c = omega (arith, short c)
+overflow_cast-result c = omega (arith, short c.args.s c.dropped-e.result c.kept-q.result c.if-s-lt-TWO_TO_24.false c.ranges.s.fits c.dropped-e.ensures c.kept-q.ensures)
 
 pub overflow_add-result-2 : goal.overflow_add-result-2
-overflow_add-result-2 c = omega (arith, few c, short c)
+overflow_add-result-2 c = omega (arith, few c.args.s c.dropped-e.result c.kept-q.result c.if-s-lt-TWO_TO_24.false c.ranges.s.fits c.dropped-e.ensures c.kept-q.ensures, short c.args.s c.dropped-e.result c.kept-q.result c.if-s-lt-TWO_TO_24.false c.ranges.s.fits c.dropped-e.ensures c.kept-q.ensures)
 
 pub float_from_bits-result : goal.float_from_bits-result
-float_from_bits-result c = pattern-no-nan (s c) (e c) (q c) (fits c) (long c) c.dropped-e.ensures c.kept-q.ensures
+float_from_bits-result c = pattern-no-nan c.args.s c.dropped-e.result c.kept-q.result c.ranges.s.fits (long c.args.s c.dropped-e.result c.kept-q.result c.if-s-lt-TWO_TO_24.false c.ranges.s.fits c.dropped-e.ensures c.kept-q.ensures) c.dropped-e.ensures c.kept-q.ensures
 
 pub returns : goal.returns
 returns c =
-    rounded-in (s c) (of_bits binary32 ((e c + 149) * 2 ^ 23 % 2 ^ 32 + q c)) (fits c)
-    (pattern (s c) (e c) (q c) (fits c) (long c) c.dropped-e.ensures c.kept-q.ensures)
+    rounded-in c.args.s (of_bits binary32 ((c.dropped-e.result + 149) * 2 ^ 23 % 2 ^ 32 + c.kept-q.result)) c.ranges.s.fits
+    (pattern c.args.s c.dropped-e.result c.kept-q.result c.ranges.s.fits (long c.args.s c.dropped-e.result c.kept-q.result c.if-s-lt-TWO_TO_24.false c.ranges.s.fits c.dropped-e.ensures c.kept-q.ensures) c.dropped-e.ensures c.kept-q.ensures)

@@ -9,20 +9,8 @@ keep_rows-requires-3 c = run-ids-fit c.requires c.column_sum-runs_used.ensures
 pub keep_rows-requires-4 : goal.keep_rows-requires-4
 keep_rows-requires-4 c = run-sizes-fit c.requires c.column_sum-runs_used.ensures
 
--- TODO slice-bounds-count-kept-start
-part-count-kept-start c = search rules
-
--- TODO slice-bounds-count-kept-end
-part-count-kept-end c = rows_end c.before.before.before.before.before.before.before.before.before.before.before.before.before.before.before.before.before.before.before.before.before.before.before.before.before.before.before.before.before.before.before.requires c.before.before.before.before.before.before.before.before.before.before.before.before.before.before.before.before.before.before.tree-rows.ensures
-
 pub count_kept-rows-requires : goal.count_kept-rows-requires
 count_kept-rows-requires c = rows_few c.requires c.tree_rows-at.ensures
-
--- TODO slice-bounds-count-kept-start-2
-part-count-kept-start-2 c = search rules
-
--- TODO slice-bounds-count-kept-end-2
-part-count-kept-end-2 c = runs-end c.before.before.before.before.before.before.before.before.before.before.before.before.before.before.before.before.before.before.before.before.before.before.before.before.before.before.before.before.before.before.before.before.before.requires c.before.before.before.before.before.before.before.before.before.before.before.before.before.before.before.before.before.before.before.before.tree-rows.ensures
 
 pub count_kept-runs-requires : goal.count_kept-runs-requires
 count_kept-runs-requires c = runs-few c.requires c.tree_rows-at.ensures

@@ -1,0 +1,29 @@
+-- `take_at` meets its contract: the parts of the remote slices that it lends are the job's source entries (`part-put`).
+use borrow.Author.Rules.{rules}
+use native.Mathlib.Omega.{arith}
+use mathlib.Core.Path.{refl, ap}
+use Prim.Native.Nat.{ℕ, ◌+◌}
+use Rattle.rules.specs.Lent.{LentJobs, lent_jobs}
+use Rattle.compactor_state.proofs.Taking.{took-none, part_room, part-put}
+use Rattle.compactor_state.proofs.merge.take_at.Goals as goal
+
+pub returns-then-taken-i-eq0 : goal.returns-then-taken-i-eq0
+returns-then-taken-i-eq0 c = took-none c.if-taken-i-eq0.true
+
+pub offset_bounds-remote_source_views-from : goal.offset_bounds-remote_source_views-from
+offset_bounds-remote_source_views-from c = omega (arith, c.requires.entries)
+
+pub slice_bounds-insert_job-end-3 : goal.slice_bounds-insert_job-end-3
+slice_bounds-insert_job-end-3 c = omega (arith, c.requires.entries, c.requires.there.source_views, c.wide.ensures)
+
+pub insert_job-requires : goal.insert_job-requires
+insert_job-requires c =
+    let l : LentJobs = lent_jobs c.args.job_count c.args.job_ids.now c.args.job_marks.now c.args.job_specs.now c.args.source_marks.now c.args.source_runs.now c.args.source_views.now in
+    let r : LentJobs = lent_jobs c.args.remote_count c.args.remote_ids.now c.args.remote_marks.now c.args.remote_specs.now c.args.remote_source_marks.now c.args.remote_source_runs.now c.args.remote_source_views.now in
+    part_room l r c.requires c.if-taken-i-eq0.false (ap (λ (n : ℕ). c.args.at + n) c.wide.ensures) refl refl
+
+pub returns : goal.returns
+returns c =
+    let l : LentJobs = lent_jobs c.args.job_count c.args.job_ids.now c.args.job_marks.now c.args.job_specs.now c.args.source_marks.now c.args.source_runs.now c.args.source_views.now in
+    let r : LentJobs = lent_jobs c.args.remote_count c.args.remote_ids.now c.args.remote_marks.now c.args.remote_specs.now c.args.remote_source_marks.now c.args.remote_source_runs.now c.args.remote_source_views.now in
+    part-put l r c.requires c.if-taken-i-eq0.false (ap (λ (n : ℕ). c.args.at + n) c.wide.ensures) refl refl c.insert_job.ensures

@@ -1,0 +1,18 @@
+-- `flag_rows` meets its contract: the invariant is that k flags are written (`Flagging`).
+use borrow.Author.Rules.{rules}
+use mathlib.Core.Path.{ap, ◌∙◌}
+use Prim.Native.Nat.{◌-◌, ◌*◌}
+use Rattle.rules.specs.Tables.{sst_view, among}
+use Rattle.rules.specs.Lent.{ulid_at}
+use Rattle.finishing.specs.Finding.{names_in, flag_of}
+use Rattle.finishing.proofs.Finding.{Flagging, flags-start, flags-next, flags-end}
+use Rattle.finishing.proofs.flagging.flag_rows.Goals as goal
+
+pub loop-k-init : goal.loop-k-init
+loop-k-init c = flags-start c.requires.2
+
+pub loop-k-preserved : goal.loop-k-preserved
+loop-k-preserved c = flags-next c.loop-k.invariant c.loop-k-test.true (c.flag.ensures ∙ ap flag_of c.is_source.ensures)
+
+pub returns : goal.returns
+returns c = flags-end c.loop-k.invariant c.loop-k-test.false
