@@ -6,7 +6,7 @@ use compactor_finish::finish::finish;
 use rules::FinishAnswer;
 
 // How a job ends: by finish, with the output, or by drain.
-#[derive(Drop)]
+#[derive(Clone, Copy)]
 pub enum Ending {
     Finish { output: u32, size: u64 },
     Drain,
