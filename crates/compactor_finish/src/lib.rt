@@ -1,3 +1,5 @@
 // slatedb's finish and drain over rows of lent tables: what is refused is found first, then the tables change.
+#![tactic(auto)]
+
 pub mod drain;
 pub mod finish;

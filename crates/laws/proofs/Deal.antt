@@ -194,13 +194,17 @@ module _ {A : Type 0} (key : A → ℕ) where
   -- one pass, for any queue
   turn : {k : ℕ} {l : List A} (qs : List (Queue A)) (s : ℕ) → Keyed qs → In k l qs → Turn k l qs s
   unfolding keep
-  turn (queue k [] ∷ qs) s g here = empty refl (apart_none k qs s g.2 g.1) here
-  turn (queue k (x ∷ l) ∷ qs) zero g here = spent (omega arith) (omega arith) refl here
-  turn (queue k (x ∷ l) ∷ qs) (suc s) g here =
-      got x l refl (of-mine k x (heads qs s) g.0.0 ∙ ap {B = List A} (λ r. x ∷ r) (apart_none k qs s g.2 g.1)) here
-  turn (queue j [] ∷ qs) s g (there i) = turn-past (turn qs s g.2 i)
-  turn (queue j (x ∷ l) ∷ qs) zero g (there i) = spent (omega arith) (omega arith) refl (there i)
-  turn {k} (queue j (x ∷ l) ∷ qs) (suc s) g (there i) = turn-next x l (not-mine k j x g.0.0 (apart_in g.1 i)) (turn qs s g.2 i)
+  turn [] s g i = elim i [ ]
+  turn (q ∷ qs) s g i = at q qs s g (λ h r. turn qs r h) i
+    where
+      at : (q : Queue A) (qs : List (Queue A)) (s : ℕ) {k : ℕ} {l : List A} → Keyed (q ∷ qs) → (Keyed qs → (r : ℕ) → In k l qs → Turn k l qs r) → In k l (q ∷ qs) → Turn k l (q ∷ qs) s
+      at (queue k []) qs s g again here = empty refl (apart_none k qs s g.2 g.1) here
+      at (queue k (x ∷ l)) qs zero g again here = spent (omega arith) (omega arith) refl here
+      at (queue k (x ∷ l)) qs (suc s) g again here =
+          got x l refl (of-mine k x (heads qs s) g.0.0 ∙ ap {B = List A} (λ r. x ∷ r) (apart_none k qs s g.2 g.1)) here
+      at (queue j []) qs s g again (there i) = turn-past (again g.2 s i)
+      at (queue j (x ∷ l)) qs zero g again (there i) = spent (omega arith) (omega arith) refl (there i)
+      at (queue j (x ∷ l)) qs (suc s) {k} g again (there i) = turn-next x l (not-mine k j x g.0.0 (apart_in g.1 i)) (again g.2 s i)
 
   -- ---- the shares
 
@@ -234,7 +238,7 @@ module _ {A : Type 0} (key : A → ℕ) where
       go (empty c o i') = rw c (omega arith)
       go (spent a b o i') = omega arith
   fair {k = k} {l} g i (more {qs} {s} {ys = ys} e d) (suc q) h =
-      rw (of-append k (heads qs s) ys) (go (turn qs s g i) (λ l' i' h'. fair (keyed-rests qs s g) i' d q h'))
+      rw (of-append k (heads qs s) ys) (go (turn qs s g i) (λ l' i' h'. fair {qs = rests qs s} (keyed-rests qs s g) i' d q h'))
     where
       go : Turn k l qs s
           → ((l' : List A) → In k l' (rests qs s) → q * length (rests qs s) ≤ s - length (heads qs s) → min (length l') q ≤ length (of k ys))
@@ -264,6 +268,7 @@ module _ {A : Type 0} (key : A → ℕ) where
 
   -- a queue that is left stood there before
   in-back : {k : ℕ} {l : List A} (qs : List (Queue A)) (s : ℕ) → In k l (rests qs s) → (m : List A) × In k m qs
+  in-back {k = k} {l = l} [] s i = elim i [ ]
   in-back (queue j [] ∷ qs) s here = ([], here)
   in-back (queue j [] ∷ qs) s (there i) = let r = in-back qs s i in (r.0, there r.1)
   in-back (queue j (x ∷ l) ∷ qs) zero i = (_, i)

@@ -75,14 +75,18 @@ module _ (lim : ℕ → ℕ) (o : Options) (ts : List Tree) (js : List Job) wher
   queue_of t = queue t.prefix (map aside (own t))
 
   -- a tree has its queue
-  queues-in : {us : List Tree} {t : Tree} → Memᴰ t us → In t.prefix (map aside (own t)) (map queue_of us)
+  queues-in : {t : Tree} {us : List Tree} → Memᴰ t us → In t.prefix (map aside (own t)) (map queue_of us)
   queues-in {t = t} (Memᴰ.head {x = c} e) = rw e here
   queues-in (Memᴰ.tail m) = there (queues-in m)
 
   -- and a queue its tree
   queues-out : {k : ℕ} {l : List Spec} (us : List Tree) → In k l (map queue_of us) → (t : Tree) × Memᴰ t us × (k ≡ t.prefix)
-  queues-out (t ∷ us) here = (t, Memᴰ.head refl, refl)
-  queues-out (t ∷ us) (there i) = let r = queues-out us i in (r.0, Memᴰ.tail r.1, r.2)
+  queues-out [] i = elim i [ ]
+  queues-out (t ∷ us) i = at t us (queues-out us) i
+    where
+      at : (t : Tree) (us : List Tree) {k : ℕ} {l : List Spec} → (In k l (map queue_of us) → (x : Tree) × Memᴰ x us × (k ≡ x.prefix)) → In k l (queue_of t ∷ map queue_of us) → (x : Tree) × Memᴰ x (t ∷ us) × (k ≡ x.prefix)
+      at t us again here = (t, Memᴰ.head refl, refl)
+      at t us again (there i) = let r = again i in (r.0, Memᴰ.tail r.1, r.2)
 
   -- as many wait as all own lists have
   queues-waiting : (us : List Tree) → waiting (map queue_of us) ≡ total (map (λ t. length (own t)) us)

@@ -21,6 +21,7 @@ Apart (t ∷ ts) = ((c : Tree) → Memᴰ c ts → c.prefix ≢ t.prefix) × Apa
 -- a prefix that is none of these
 none-same : {c : Tree} (k : ℕ) (ts : List Tree) → any (eqb k) (map (λ t. t.prefix) ts) ≡ false → Memᴰ c ts → c.prefix ≢ k
 unfolding any
+none-same k [] h x q = elim x [ ]
 none-same {c} k (t ∷ ts) h (Memᴰ.head e) q =
     eqb-false k t.prefix (or_left (eqb k t.prefix) (any (eqb k) (map (λ x. x.prefix) ts)) h) (sym q ∙ ap (λ (x : Tree). x.prefix) e)
 none-same k (t ∷ ts) h (Memᴰ.tail m) q = none-same k ts (or_right (eqb k t.prefix) (any (eqb k) (map (λ x. x.prefix) ts)) h) m q
@@ -110,6 +111,7 @@ ordered-length (t ∷ ts) = length-in (placed-in t (ordered ts)) ∙ ap suc (ord
 -- each tree is asked
 pub ordered-has : {c : Tree} (ts : List Tree) → Memᴰ c ts → Memᴰ c (ordered ts)
 unfolding ordered
+ordered-has [] x = elim x [ ]
 ordered-has (t ∷ ts) (Memᴰ.head e) = mem-in (placed-in t (ordered ts)) (Memᴰ.head e)
 ordered-has (t ∷ ts) (Memᴰ.tail m) = mem-in (placed-in t (ordered ts)) (Memᴰ.tail (ordered-has ts m))
 

@@ -44,6 +44,8 @@ module _ (lim : ℕ → ℕ) (o : Options) where
     -- what is used of other trees does not matter
     follow-same : (u v : ℕ → SourceId → Bool) (ts : List Tree) (qs : List (Queue Spec))
         → ((c : Tree) → Memᴰ c ts → v c.prefix ≡ u c.prefix) → FollowAll u ts qs → FollowAll v ts qs
+    follow-same u v [] (_ ∷ qs) e h = elim h [ ]
+    follow-same u v (t ∷ ts) [] e h = elim h [ ]
     follow-same u v [] [] e h = tt
     follow-same u v (t ∷ ts) (queue k l ∷ qs) e h =
         (subst (λ (w : SourceId → Bool). Follows lim o first t w l) (sym (e t (Memᴰ.head refl))) h.0, follow-same u v ts qs (λ c m. e c (Memᴰ.tail m)) h.1)
@@ -61,6 +63,8 @@ module _ (lim : ℕ → ℕ) (o : Options) where
         → Apart ts → FollowAll st.used ts qs
         → Passed st (pass lim o ts st) ts qs s
     unfolding pass
+    pass-deals [] (_ ∷ qs) s st e hf d h = elim h [ ]
+    pass-deals (t ∷ ts) [] s st e hf d h = elim h [ ]
     pass-deals [] [] s st e hf d h = record { specs = sym (append-nil (map aside st.specs)); left = tt; slots = omega arith; fresh = hf; others = λ k n. refl }
     pass-deals (t ∷ ts) (queue k l ∷ qs) zero st e hf d h =
         rw (pass-stops lim o (t ∷ ts) st e)

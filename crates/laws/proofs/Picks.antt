@@ -98,6 +98,7 @@ module _ (lim : ℕ → ℕ) (o : Options) (u : SourceId → Bool) (f : ℕ) (t 
 
 -- where step 1 has a source, its spec shows it
 pub rows-first : {x : SourceId} (vs : List L0Row) → Memᴰ x (map view_id vs) → first_is_row (map view_id vs) ≡ true
+rows-first [] m = elim m [ ]
 rows-first (v ∷ vs) m = refl
 
 -- a spec with runs for sources has no rows

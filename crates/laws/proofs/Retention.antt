@@ -71,6 +71,7 @@ any_some (j ∷ js) h = go (finished j) h (any_some js)
 
 -- one more in front is not the last
 last-of : {A : Type 0} (x : A) (xs : List A) → 1 ≤ length xs → last_of 1 (x ∷ xs) ≡ last_of 1 xs
+last-of x [] h = elim h [ ]
 last-of x (y ∷ ys) h =
     let more : suc (suc (length ys)) - 1 ≡ suc (suc (length ys) - 1) = omega arith in
     ap (λ (n : ℕ). drop n (x ∷ y ∷ ys)) more

@@ -131,6 +131,7 @@ module _ (lim : ℕ → ℕ) (o : Options) (least : 1 ≤ o.min) (most : o.min �
       (ap (wrong_destination s.destination) (rows-lowest (drop k t.l0))))
     where
       not-empty : {x : SourceId} (xs : List SourceId) → Memᴰ x xs → is_empty xs ≡ false
+      not-empty [] m = elim m [ ]
       not-empty (x ∷ xs) m = refl
 
   accepts-runs : OfRuns o t s → tiered_refusal s.sources s.destination (some t) ≡ 0

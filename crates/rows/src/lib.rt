@@ -1,4 +1,6 @@
 // Reading, checking and moving rows of lent tables. The movers have a module for each element type of the slices.
+#![tactic(auto)]
+
 pub mod bounds;
 pub mod find;
 pub mod ids;

@@ -2,7 +2,6 @@
 use mathlib.Core.Path.{◌≡◌, refl, ap₂}
 use mathlib.Core.List.{List, [], ◌∷◌}
 use mathlib.Core.Bool.{Bool, true, false, ◌&&◌, ◌||◌}
-use native.Mathlib.Omega.{arith}
 use Rattle.rules.specs.Lists.{any, all, linked}
 use Rattle.rules.proofs.Lookups.{and_left, and_right}
 

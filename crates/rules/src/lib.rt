@@ -1,4 +1,5 @@
 // Document 01's options, answers and capacities as types and constants. What is right is said in specs/.
+#![tactic(auto)]
 
 // "The options stay one record with the float threshold in it."
 #[repr(C)]

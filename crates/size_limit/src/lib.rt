@@ -1,4 +1,6 @@
 // The size limit: rounding in, the product, cutting out.
+#![tactic(auto)]
+
 ghost use Rattle.std.specs.Prelude.{◌≡◌};
 ghost use Rattle.rules.specs.Limit.{limit_of};
 

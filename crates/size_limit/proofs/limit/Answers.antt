@@ -1,5 +1,5 @@
 -- `limit` holds since its two calls are the two ends of `limit_of`, and the product is the language's own.
-use Rattle.std.proofs.Common.{ap, ◌∙◌, rules}
+use Rattle.std.proofs.Common.{ap, ◌∙◌}
 use lib.Ieee.{Float, binary32, mul, to_unsigned}
 use Rattle.rules.specs.Limit.{limit_of}
 use Rattle.size_limit.proofs.limit.Goals as goal

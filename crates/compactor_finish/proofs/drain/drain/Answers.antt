@@ -2,7 +2,6 @@
 use mathlib.Core.Path.{refl}
 use Rattle.rules.specs.Lent.{LentTrees, LentJobs, lent_trees, lent_jobs}
 use Rattle.compactor_finish.proofs.Leaving.{drain-is, leaves-refused, leaves-missing, drain-keep-asks, drain-watermark-asks, drain-leaves}
-use borrow.Author.Rules.{rules}
 use Rattle.compactor_finish.proofs.drain.drain.Goals as goal
 
 pub set_status-requires : goal.set_status-requires

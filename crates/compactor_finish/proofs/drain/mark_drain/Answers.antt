@@ -1,11 +1,8 @@
 -- `mark_drain` meets its contract: the first row that goes decides (`drain-commits`).
 use mathlib.Core.Path.{refl}
-use mathlib.Core.List.{List}
-use Prim.Native.Nat.{ℕ}
 use Rattle.rules.specs.Lent.{LentTrees, LentJobs, lent_trees, lent_jobs}
 use Rattle.finishing.specs.Placing.{mark_of}
 use Rattle.compactor_finish.proofs.Commits.{drain-commits, drain-mark-fit, drained-mark}
-use borrow.Author.Rules.{rules}
 use Rattle.compactor_finish.proofs.drain.mark_drain.Goals as goal
 
 pub drain_mark-requires : goal.drain_mark-requires

@@ -4,7 +4,6 @@ use Rattle.rules.specs.Tables.{Ulid}
 use Rattle.rules.specs.Lent.{LentTrees, LentJobs, lent_trees, lent_jobs}
 use Rattle.rules.proofs.Bounds.{trees-good, jobs-good}
 use Rattle.compactor_finish.proofs.Commits.{tables-ok, finish-tables, finish-no-work, finish-missing, work-fit, tree-room, job-room, work-is}
-use borrow.Author.Rules.{rules}
 use Rattle.compactor_finish.proofs.finish.find_finish.Goals as goal
 
 pub returns-then-refusal-ne0 : goal.returns-then-refusal-ne0

@@ -2,7 +2,6 @@
 use mathlib.Core.Path.{refl}
 use Rattle.rules.specs.Lent.{LentTrees, LentJobs, lent_trees, lent_jobs}
 use Rattle.compactor_finish.proofs.Leaving.{finish-is, leaves-refused, leaves-missing, finish-keep-asks, finish-put-asks, finish-watermark-asks, finish-leaves}
-use borrow.Author.Rules.{rules}
 use Rattle.compactor_finish.proofs.finish.finish.Goals as goal
 
 pub set_status-requires : goal.set_status-requires

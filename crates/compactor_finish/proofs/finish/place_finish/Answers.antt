@@ -1,13 +1,10 @@
 -- `place_finish` meets its contract: where the output goes decides (`finish-refused`, `finish-commits`).
 use mathlib.Core.Path.{refl}
-use mathlib.Core.List.{List}
-use Prim.Native.Nat.{ℕ}
 use native.Mathlib.Omega.{arith}
 use Rattle.rules.specs.Lent.{LentTrees, LentJobs, lent_trees, lent_jobs, runs_used, tree_at, l0_count, run_count, rows_from}
 use Rattle.rules.specs.Lists.{total}
 use Rattle.finishing.specs.Placing.{mark_of}
 use Rattle.compactor_finish.proofs.Commits.{finish-refused, finish-commits, mark-of, own-rows, finish-mark-fit, output-fit}
-use borrow.Author.Rules.{rules}
 use Rattle.compactor_finish.proofs.finish.place_finish.Goals as goal
 
 pub finish_mark-mark-requires : goal.finish_mark-mark-requires

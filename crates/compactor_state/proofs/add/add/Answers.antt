@@ -1,6 +1,5 @@
 -- `add` meets its contract: refused, the slices are as they were (`add-refused`, `add-full`); else the job of its id
 -- goes out and it goes in (`add_done`).
-use borrow.Author.Rules.{rules}
 use mathlib.Core.Path.{refl}
 use Rattle.rules.specs.Lent.{LentJobs, lent_jobs}
 use Rattle.rules.specs.Jobs.{LentJob}

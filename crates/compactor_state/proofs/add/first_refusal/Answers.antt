@@ -1,11 +1,9 @@
 -- `first_refusal` meets its contract: each return is one case of `refused_first`, in its order; clashes are read off the
 -- slices by `flat-clashes`.
-use borrow.Author.Rules.{rules}
 use mathlib.Core.Path.{sym, ap, ◌∙◌}
 use mathlib.Core.Bool.{not}
-use Prim.Native.Nat.{ℕ}
 use Rattle.rules.specs.Lent.{LentJobs, lent_jobs}
-use Rattle.rules.specs.Jobs.{LentJob, job_of}
+use Rattle.rules.specs.Jobs.{job_of}
 use Rattle.job_rows.specs.Slices.{lent_job}
 use Rattle.compactor_state.proofs.Clashes.{flat-clashes}
 use Rattle.compactor_state.proofs.AddCall.{table-refused, job-refused, clash-refused, none-refused, clash-rows, told-good, told-bad}

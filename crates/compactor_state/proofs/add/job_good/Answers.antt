@@ -1,7 +1,4 @@
 -- `job_good` meets its contract: the status first, then the kind, then the job's own sources.
-use borrow.Author.Rules.{rules}
-use Prim.Native.Nat.{ℕ}
-use Rattle.rules.specs.Jobs.{LentJob}
 use Rattle.job_rows.specs.Slices.{lent_job}
 use Rattle.compactor_state.proofs.AddCall.{status-bad, drain-bad, sources-tell}
 use Rattle.compactor_state.proofs.add.job_good.Goals as goal

@@ -1,12 +1,8 @@
 -- `mark_others` meets its contract: the invariant is that the first i flags say whether the ids are other ones
 -- (`Flagged`).
-use borrow.Author.Rules.{rules}
-use Prim.Native.Nat.{◌-◌, ◌*◌}
-use mathlib.Core.Path.{◌≡◌, refl, ap}
+use mathlib.Core.Path.{refl, ap}
 use mathlib.Core.Bool.{not}
-use Rattle.rules.specs.Tables.{same_ulid}
-use Rattle.rules.specs.Lent.{ulid_at}
-use Rattle.merging.proofs.Flagged.{Flagged, flags-start, flags-next}
+use Rattle.merging.proofs.Flagged.{flags-start, flags-next}
 use Rattle.compactor_state.proofs.AddCall.{others-flags}
 use Rattle.compactor_state.proofs.add.mark_others.Goals as goal
 

@@ -1,11 +1,9 @@
-use borrow.Author.Rules.{rules}
 use Prim.Native.Nat.{◌-◌, ◌*◌}
-use mathlib.Core.Path.{◌≡◌, refl, ap}
+use mathlib.Core.Path.{◌≡◌}
 use mathlib.Core.Bool.{not}
 use Rattle.rules.specs.Tables.{same_ulid}
 use Rattle.rules.specs.Lent.{ulid_at}
-use Rattle.merging.proofs.Flagged.{Flagged, flags-start, flags-next}
-use Rattle.compactor_state.proofs.AddCall.{others-flags}
+use Rattle.merging.proofs.Flagged.{Flagged}
 use Rattle.compactor_state.proofs.add.mark_others.Given as goal
 
 abbrev pub invariant-loop-i : goal.invariant-loop-i

@@ -1,6 +1,5 @@
 -- `room_refusal` meets its contract: more than 1,024 entries exceed by themselves (`full-beyond`); fewer, and the sums
 -- fit.
-use borrow.Author.Rules.{rules}
 use mathlib.Core.Path.{sym}
 use Rattle.compactor_state.proofs.AddCall.{full-beyond}
 use Rattle.compactor_state.proofs.add.room_refusal.Goals as goal

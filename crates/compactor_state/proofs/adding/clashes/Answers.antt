@@ -1,11 +1,7 @@
 -- `clashes` meets its contract: the invariant is that one of the jobs left clashes exactly if one of all does (`Left`).
-use borrow.Author.Rules.{rules}
 use mathlib.Core.Path.{sym, ◌∙◌}
-use Prim.Native.Nat.{◌-◌}
 use Rattle.rules.specs.Lists.{any}
-use Rattle.rules.specs.Lent.{rows_from}
-use Rattle.rows.proofs.Scans.{Left, scan-starts, scan-next, scan-stops, scan-ends}
-use Rattle.compactor_state.specs.Clash.{clash_at}
+use Rattle.rows.proofs.Scans.{scan-starts, scan-next, scan-stops, scan-ends}
 use Rattle.compactor_state.proofs.adding.clashes.Goals as goal
 
 pub loop-i-init : goal.loop-i-init

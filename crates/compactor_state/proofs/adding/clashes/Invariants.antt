@@ -1,9 +1,7 @@
-use borrow.Author.Rules.{rules}
-use mathlib.Core.Path.{sym, ◌∙◌}
 use Prim.Native.Nat.{◌-◌}
 use Rattle.rules.specs.Lists.{any}
 use Rattle.rules.specs.Lent.{rows_from}
-use Rattle.rows.proofs.Scans.{Left, scan-starts, scan-next, scan-stops, scan-ends}
+use Rattle.rows.proofs.Scans.{Left}
 use Rattle.compactor_state.specs.Clash.{clash_at}
 use Rattle.compactor_state.proofs.adding.clashes.Given as goal
 

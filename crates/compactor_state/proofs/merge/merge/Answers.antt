@@ -1,5 +1,4 @@
 -- `merge` meets its contract: each return is one case of `merge_call` (MergeCall.antt).
-use borrow.Author.Rules.{rules}
 use mathlib.Core.Path.{sym, ◌∙◌}
 use Rattle.rules.specs.Lent.{LentJobs, lent_jobs}
 use Rattle.compactor_state.proofs.MergeCall.{refused-early, refused_full, merge-done, merge-ready, plan-asks, has-rows}

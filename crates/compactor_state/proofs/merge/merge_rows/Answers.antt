@@ -1,6 +1,5 @@
 -- `merge_rows` meets its contract: what `keep_jobs` leaves is a table to which the adopted jobs are new (`can-take-all`), and with them it is the
 -- merged one (`merge-laid`).
-use borrow.Author.Rules.{rules}
 use native.Mathlib.Omega.{arith}
 use Rattle.compactor_state.proofs.Taking.{can-take-all, merge-laid}
 use Rattle.compactor_state.proofs.merge.merge_rows.Goals as goal

@@ -1,11 +1,7 @@
 -- `take_adopted` meets its contract: the invariant is that the jobs that are there and those left to take make the same jobs as at the start
 -- (`TakingFrom`).
-use borrow.Author.Rules.{rules}
 use native.Mathlib.Omega.{arith}
-use mathlib.Core.Path.{sym, ◌∙◌}
-use Prim.Native.Nat.{◌-◌}
-use Rattle.rules.specs.Lent.{lent_jobs}
-use Rattle.compactor_state.proofs.Taking.{TakingFrom, taking-starts, can-take, taking-next, taking-ends}
+use Rattle.compactor_state.proofs.Taking.{taking-starts, can-take, taking-next, taking-ends}
 use Rattle.compactor_state.proofs.merge.take_adopted.Goals as goal
 
 pub loop-i-init : goal.loop-i-init

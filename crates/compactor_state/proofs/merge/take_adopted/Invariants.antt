@@ -1,9 +1,6 @@
-use borrow.Author.Rules.{rules}
-use native.Mathlib.Omega.{arith}
-use mathlib.Core.Path.{sym, ◌∙◌}
 use Prim.Native.Nat.{◌-◌}
 use Rattle.rules.specs.Lent.{lent_jobs}
-use Rattle.compactor_state.proofs.Taking.{TakingFrom, taking-starts, can-take, taking-next, taking-ends}
+use Rattle.compactor_state.proofs.Taking.{TakingFrom}
 use Rattle.compactor_state.proofs.merge.take_adopted.Given as goal
 
 abbrev pub invariant-loop-i : goal.invariant-loop-i

@@ -1,5 +1,4 @@
 -- `take_at` meets its contract: the parts of the remote slices that it lends are the job's source entries (`part-put`).
-use borrow.Author.Rules.{rules}
 use native.Mathlib.Omega.{arith}
 use mathlib.Core.Path.{refl, ap}
 use Prim.Native.Nat.{ℕ, ◌+◌}

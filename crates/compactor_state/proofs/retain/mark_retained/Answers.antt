@@ -1,8 +1,7 @@
 -- `mark_retained` meets its contract: the invariant is that the flags from job i on are set, and that `seen` says
 -- whether one of these jobs is finished (`Retaining`).
-use borrow.Author.Rules.{rules}
 use mathlib.Core.Path.{refl}
-use Rattle.compactor_state.proofs.Retaining.{Retaining, retaining-starts, retaining-next, retaining-ends}
+use Rattle.compactor_state.proofs.Retaining.{retaining-starts, retaining-next, retaining-ends}
 use Rattle.compactor_state.proofs.retain.mark_retained.Goals as goal
 
 pub loop-i-init : goal.loop-i-init

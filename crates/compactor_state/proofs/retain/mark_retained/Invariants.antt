@@ -1,6 +1,4 @@
-use borrow.Author.Rules.{rules}
-use mathlib.Core.Path.{refl}
-use Rattle.compactor_state.proofs.Retaining.{Retaining, retaining-starts, retaining-next, retaining-ends}
+use Rattle.compactor_state.proofs.Retaining.{Retaining}
 use Rattle.compactor_state.proofs.retain.mark_retained.Given as goal
 
 abbrev pub invariant-loop-i : goal.invariant-loop-i

@@ -1,7 +1,5 @@
 -- `retain` meets its contract: refused, the slices are as they were (`retain-refused`); else the flags keep what
 -- retention keeps (`retain-done`).
-use borrow.Author.Rules.{rules}
-use mathlib.Core.Path.{refl}
 use Rattle.rules.specs.Lent.{LentJobs, lent_jobs}
 use Rattle.job_rows.proofs.Fitting.{good-capacity, marks-fit}
 use Rattle.compactor_state.proofs.Retaining.{retain-refused, retain-good, retain-flags, retain-done}

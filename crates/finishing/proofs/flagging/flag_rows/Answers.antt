@@ -1,11 +1,7 @@
 -- `flag_rows` meets its contract: the invariant is that k flags are written (`Flagging`).
-use borrow.Author.Rules.{rules}
 use mathlib.Core.Path.{ap, ◌∙◌}
-use Prim.Native.Nat.{◌-◌, ◌*◌}
-use Rattle.rules.specs.Tables.{sst_view, among}
-use Rattle.rules.specs.Lent.{ulid_at}
-use Rattle.finishing.specs.Finding.{names_in, flag_of}
-use Rattle.finishing.proofs.Finding.{Flagging, flags-start, flags-next, flags-end}
+use Rattle.finishing.specs.Finding.{flag_of}
+use Rattle.finishing.proofs.Finding.{flags-start, flags-next, flags-end}
 use Rattle.finishing.proofs.flagging.flag_rows.Goals as goal
 
 pub loop-k-init : goal.loop-k-init

@@ -1,10 +1,8 @@
-use borrow.Author.Rules.{rules}
-use mathlib.Core.Path.{ap, ◌∙◌}
 use Prim.Native.Nat.{◌-◌, ◌*◌}
 use Rattle.rules.specs.Tables.{sst_view, among}
 use Rattle.rules.specs.Lent.{ulid_at}
 use Rattle.finishing.specs.Finding.{names_in, flag_of}
-use Rattle.finishing.proofs.Finding.{Flagging, flags-start, flags-next, flags-end}
+use Rattle.finishing.proofs.Finding.{Flagging}
 use Rattle.finishing.proofs.flagging.flag_rows.Given as goal
 
 abbrev pub invariant-loop-k : goal.invariant-loop-k

@@ -1,10 +1,8 @@
-use borrow.Author.Rules.{rules}
 use lib.ListN.{get_or}
-use mathlib.Core.Path.{ap, ◌∙◌}
 use Prim.Native.Nat.{◌-◌}
 use Rattle.rules.specs.Tables.{sorted_run, among}
 use Rattle.finishing.specs.Finding.{names_in, gone_with, flag_of}
-use Rattle.finishing.proofs.Finding.{Flagging, flags-start, flags-next, flags-end}
+use Rattle.finishing.proofs.Finding.{Flagging}
 use Rattle.finishing.proofs.flagging.flag_runs.Given as goal
 
 abbrev pub invariant-loop-k : goal.invariant-loop-k

@@ -1,7 +1,6 @@
 -- `flag_tree` meets its contract: the flags that the two loops leave say of each row whether it stays (`flags-made`).
 use Rattle.rules.specs.Lent.{lent_trees, lent_jobs}
 use Rattle.finishing.proofs.Pasting.{flags-made, sources-fit, rows_fit, runs_fit}
-use borrow.Author.Rules.{rules}
 use Rattle.finishing.proofs.flagging.flag_tree.Goals as goal
 
 pub flag_rows-requires : goal.flag_rows-requires

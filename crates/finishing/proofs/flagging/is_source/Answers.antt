@@ -1,11 +1,7 @@
 -- `is_source` meets its contract: the invariant is that one of the entries left names it exactly if one of all does (`Left`).
-use borrow.Author.Rules.{rules}
 use mathlib.Core.Path.{sym, ◌∙◌}
-use Prim.Native.Nat.{◌+◌, ◌-◌}
 use Rattle.rules.specs.Lists.{any}
-use Rattle.rules.specs.Tables.{same_id, id_of}
-use Rattle.rules.specs.Lent.{rows_from, source_at}
-use Rattle.rows.proofs.Scans.{Left, scan-next, scan-stops, scan-ends}
+use Rattle.rows.proofs.Scans.{scan-next, scan-stops, scan-ends}
 use Rattle.finishing.proofs.Finding.{scan-within}
 use Rattle.finishing.proofs.flagging.is_source.Goals as goal
 

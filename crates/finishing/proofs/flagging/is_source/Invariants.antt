@@ -1,11 +1,8 @@
-use borrow.Author.Rules.{rules}
-use mathlib.Core.Path.{sym, ◌∙◌}
 use Prim.Native.Nat.{◌+◌, ◌-◌}
 use Rattle.rules.specs.Lists.{any}
 use Rattle.rules.specs.Tables.{same_id, id_of}
 use Rattle.rules.specs.Lent.{rows_from, source_at}
-use Rattle.rows.proofs.Scans.{Left, scan-next, scan-stops, scan-ends}
-use Rattle.finishing.proofs.Finding.{scan-within}
+use Rattle.rows.proofs.Scans.{Left}
 use Rattle.finishing.proofs.flagging.is_source.Given as goal
 
 abbrev pub invariant-loop-i : goal.invariant-loop-i

@@ -1,7 +1,6 @@
 -- `run_goes` meets its contract: a run goes as a source, or as the destination of a tiered job.
 use mathlib.Core.Path.{sym, ◌∙◌}
 use Rattle.finishing.proofs.Finding.{goes-source, goes-drain, goes-tiered}
-use borrow.Author.Rules.{rules}
 use Rattle.finishing.proofs.flagging.run_goes.Goals as goal
 
 pub returns-then-is_source : goal.returns-then-is_source

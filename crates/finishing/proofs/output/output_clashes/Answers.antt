@@ -1,6 +1,5 @@
 -- `output_clashes` meets its contract: the one run that can have the number decides.
 use Rattle.finishing.proofs.Placed.{clash-none, clash-by}
-use borrow.Author.Rules.{rules}
 use Rattle.finishing.proofs.output.output_clashes.Goals as goal
 
 pub returns-then-used-same : goal.returns-then-used-same

@@ -1,13 +1,6 @@
 -- `output_place` meets its contract: the invariant is that every run so far is above the output (`Sought`).
-use borrow.Author.Rules.{rules}
 use borrow.Author.Tests.{le-leb, lt-leb}
-use mathlib.Core.Bool.{not}
-use Prim.Native.Nat.{◌+◌, ◌-◌}
-use lib.Dec.{leb}
-use lib.ListN.{get_or}
-use Rattle.rules.specs.Lists.{leading}
-use Rattle.rules.specs.Lent.{rows_from}
-use Rattle.rows.proofs.Finds.{Sought, seek-on, seek_found, seek-ends}
+use Rattle.rows.proofs.Finds.{seek-on, seek_found, seek-ends}
 use Rattle.finishing.proofs.Finding.{seek-within}
 use Rattle.finishing.proofs.output.output_place.Goals as goal
 

@@ -2,7 +2,6 @@
 use Prim.Native.Nat.{◌+◌, ◌-◌}
 use native.Mathlib.Omega.{arith}
 use Rattle.finishing.proofs.Placed.{old-within, part-few, place-clash, place-full, place-there}
-use borrow.Author.Rules.{rules}
 use Rattle.finishing.proofs.output.place_output.Goals as goal
 
 pub returns-then-output_clashes : goal.returns-then-output_clashes

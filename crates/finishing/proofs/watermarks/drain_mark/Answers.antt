@@ -1,7 +1,6 @@
 -- `drain_mark` meets its contract: the first row that goes decides.
 use mathlib.Core.Path.{sym, ◌∙◌}
 use Rattle.finishing.proofs.Marks.{drain-there, drain-stays}
-use borrow.Author.Rules.{rules}
 use Rattle.finishing.proofs.watermarks.drain_mark.Goals as goal
 
 pub returns-then-k-rows : goal.returns-then-k-rows

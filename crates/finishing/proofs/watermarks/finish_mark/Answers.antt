@@ -1,7 +1,6 @@
 -- `finish_mark` meets its contract: the first source decides, and where it is a view the row that is found.
 use mathlib.Core.Path.{sym, ◌∙◌}
 use Rattle.finishing.proofs.Marks.{mark-stays, mark-there, mark-absent}
-use borrow.Author.Rules.{rules}
 use Rattle.finishing.proofs.watermarks.finish_mark.Goals as goal
 
 pub returns-then-source_marks-from-eq1 : goal.returns-then-source_marks-from-eq1

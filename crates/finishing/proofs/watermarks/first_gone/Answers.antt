@@ -1,13 +1,6 @@
 -- `first_gone` meets its contract: the invariant is that every row so far stays (`Sought`).
-use borrow.Author.Rules.{rules}
 use borrow.Author.Tests.{eq-eqb, ne_eqb}
-use mathlib.Core.Bool.{not}
-use Prim.Native.Nat.{◌+◌, ◌-◌}
-use lib.Dec.{eqb}
-use lib.ListN.{get_or}
-use Rattle.rules.specs.Lists.{leading}
-use Rattle.rules.specs.Lent.{rows_from}
-use Rattle.rows.proofs.Finds.{Sought, seek-on, seek_found, seek-ends}
+use Rattle.rows.proofs.Finds.{seek-on, seek_found, seek-ends}
 use Rattle.finishing.proofs.Finding.{seek-within}
 use Rattle.finishing.proofs.watermarks.first_gone.Goals as goal
 

@@ -4,7 +4,6 @@ use Prim.Native.Nat.{ℕ}
 use native.Mathlib.Omega.{arith}
 use lib.ListN.{get_or}
 use Rattle.rules.proofs.Records.{ulid-eq, watermark-eq}
-use borrow.Author.Rules.{rules}
 use Rattle.finishing.proofs.watermarks.old_mark.Goals as goal
 
 pub returns : goal.returns

@@ -1,7 +1,6 @@
 -- `find_work` meets its contract: each return is one case of what is found (Finding.antt).
 use Rattle.rows.proofs.Found.{tree-missing}
 use Rattle.finishing.proofs.Finding.{no-job, wrong-kind, no-sources, the-job, the-tree}
-use borrow.Author.Rules.{rules}
 use Rattle.finishing.proofs.work.find_work.Goals as goal
 use Rattle.finishing.proofs.work.find_work.Goals.{then-drain-eq0+else-job_specs-job-eq0, else-drain-eq0}
 

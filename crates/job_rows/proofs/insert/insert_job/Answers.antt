@@ -1,6 +1,5 @@
 -- `insert_job` meets its contract: each mover opens a gap at the job's place and fills it (`inserts`), and there is
 -- room.
-use borrow.Author.Rules.{rules}
 use native.Mathlib.Omega.{arith}
 use Rattle.rules.specs.Lent.{LentJobs, lent_jobs}
 use Rattle.rules.specs.Jobs.{LentJob}

@@ -1,13 +1,9 @@
-use borrow.Author.Rules.{rules}
-use mathlib.Core.Path.{sym, ap, ◌∙◌}
 use mathlib.Core.Bool.{not}
 use Prim.Native.Nat.{◌-◌, ◌*◌}
-use native.Mathlib.Nat.{sub-zero}
 use Rattle.rules.specs.Lists.{leading}
 use Rattle.rules.specs.Tables.{ulid_below}
 use Rattle.rules.specs.Lent.{rows_from, ulid_at}
-use Rattle.rows.proofs.Finds.{Sought, seek-starts, seek-on, seek_found, seek-ends}
-use Rattle.job_rows.proofs.Place.{leading-twice}
+use Rattle.rows.proofs.Finds.{Sought}
 use Rattle.job_rows.proofs.insert.place.Given as goal
 
 abbrev pub invariant-loop-i : goal.invariant-loop-i

@@ -1,7 +1,5 @@
 use Prim.Native.Nat.{◌-◌}
-use mathlib.Core.Logic.{⊎_elim}
-use borrow.Author.Rules.{rules}
-use Rattle.job_rows.proofs.Flags.{Counting, counting-starts, counting_more, counting-skip, counting-ends}
+use Rattle.job_rows.proofs.Flags.{Counting}
 use Rattle.job_rows.proofs.keep.count_marked.Given as goal
 
 abbrev pub invariant-loop-i : goal.invariant-loop-i

@@ -1,10 +1,8 @@
 -- `fill` meets its contract: the invariant is that the first k flags are written (`Pasted`).
-use lib.ListN.{replicate, length-replicate, get_or-replicate}
-use Prim.Native.Nat.{◌-◌}
+use lib.ListN.{length-replicate, get_or-replicate}
 use mathlib.Core.Path.{sym}
 use native.Mathlib.Omega.{arith}
-use borrow.Author.Rules.{rules}
-use Rattle.rows.proofs.Paste.{Pasted, pasted-none, pasted-more, pasted-all}
+use Rattle.rows.proofs.Paste.{pasted-none, pasted-more, pasted-all}
 use Rattle.job_rows.proofs.keep.fill.Goals as goal
 
 pub loop-k-init : goal.loop-k-init

@@ -1,9 +1,6 @@
-use lib.ListN.{replicate, length-replicate, get_or-replicate}
+use lib.ListN.{replicate}
 use Prim.Native.Nat.{◌-◌}
-use mathlib.Core.Path.{sym}
-use native.Mathlib.Omega.{arith}
-use borrow.Author.Rules.{rules}
-use Rattle.rows.proofs.Paste.{Pasted, pasted-none, pasted-more, pasted-all}
+use Rattle.rows.proofs.Paste.{Pasted}
 use Rattle.job_rows.proofs.keep.fill.Given as goal
 
 abbrev pub invariant-loop-k : goal.invariant-loop-k

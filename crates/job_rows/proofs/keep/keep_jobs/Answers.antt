@@ -1,5 +1,4 @@
 -- `keep_jobs` meets its contract: each mover keeps the rows that its flags say (`keeps-jobs`), and they fit.
-use borrow.Author.Rules.{rules}
 use Rattle.rules.specs.Lent.{lent_jobs}
 use Rattle.job_rows.proofs.Fitting.{ids-fit, marks-fit, specs-fit, entries_fit, flags-fit, source-marks-fit, source-runs-fit, source-views-fit}
 use Rattle.job_rows.proofs.Keeping.{keeps-jobs}

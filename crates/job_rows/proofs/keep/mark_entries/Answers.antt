@@ -1,9 +1,7 @@
 -- `mark_entries` meets its contract: the invariant is that the flags of the first i jobs' entries stand at the front
 -- (`Marking`).
-use Prim.Native.Nat.{◌-◌}
 use native.Mathlib.Omega.{arith}
-use borrow.Author.Rules.{rules}
-use Rattle.job_rows.proofs.Flags.{Marking, marking-starts, marking-room, marking-next, marking-ends}
+use Rattle.job_rows.proofs.Flags.{marking-starts, marking-room, marking-next, marking-ends}
 use Rattle.job_rows.proofs.keep.mark_entries.Goals as goal
 
 pub loop-i-init : goal.loop-i-init

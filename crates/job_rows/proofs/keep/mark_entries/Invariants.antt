@@ -1,7 +1,5 @@
 use Prim.Native.Nat.{◌-◌}
-use native.Mathlib.Omega.{arith}
-use borrow.Author.Rules.{rules}
-use Rattle.job_rows.proofs.Flags.{Marking, marking-starts, marking-room, marking-next, marking-ends}
+use Rattle.job_rows.proofs.Flags.{Marking}
 use Rattle.job_rows.proofs.keep.mark_entries.Given as goal
 
 abbrev pub invariant-loop-i : goal.invariant-loop-i

@@ -1,5 +1,4 @@
 -- `adopts` meets its contract: the constant is the table of the rules (`flat-is`), by one test over all its entries.
-use borrow.Author.Rules.{rules}
 use mathlib.Core.Path.{ap}
 use Prim.Native.Nat.{ℕ}
 use lib.Dec.{eqb}

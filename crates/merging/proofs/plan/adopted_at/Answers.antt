@@ -1,6 +1,5 @@
 -- `adopted_at` meets its contract: the look-up finds the local job of the id, or none, and the adoption table is looked up at its row (`adopted-known`,
 -- `adopted-absent`).
-use borrow.Author.Rules.{rules}
 use native.Mathlib.Omega.{arith}
 use Rattle.merging.proofs.Flagged.{adopted-known, adopted-absent}
 use Rattle.merging.proofs.plan.adopted_at.Goals as goal

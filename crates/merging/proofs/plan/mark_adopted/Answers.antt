@@ -1,10 +1,7 @@
 -- `mark_adopted` meets its contract: the invariant is that the flags so far say which remote jobs are adopted (`Flagged`).
-use borrow.Author.Rules.{rules}
-use Prim.Native.Nat.{◌-◌}
 use native.Mathlib.Omega.{arith}
 use mathlib.Core.Path.{refl}
-use Rattle.merging.specs.Merge.{AdoptedRow}
-use Rattle.merging.proofs.Flagged.{Flagged, flags-start, flags-next, adopted-flags}
+use Rattle.merging.proofs.Flagged.{flags-start, flags-next, adopted-flags}
 use Rattle.merging.proofs.plan.mark_adopted.Goals as goal
 
 pub loop-i-init : goal.loop-i-init

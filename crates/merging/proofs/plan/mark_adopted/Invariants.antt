@@ -1,9 +1,6 @@
-use borrow.Author.Rules.{rules}
 use Prim.Native.Nat.{◌-◌}
-use native.Mathlib.Omega.{arith}
-use mathlib.Core.Path.{refl}
 use Rattle.merging.specs.Merge.{AdoptedRow}
-use Rattle.merging.proofs.Flagged.{Flagged, flags-start, flags-next, adopted-flags}
+use Rattle.merging.proofs.Flagged.{Flagged}
 use Rattle.merging.proofs.plan.mark_adopted.Given as goal
 
 abbrev pub invariant-loop-i : goal.invariant-loop-i

@@ -1,9 +1,6 @@
 -- `mark_staying` meets its contract: the invariant is that the flags so far say which local jobs stay (`Flagged`).
-use borrow.Author.Rules.{rules}
-use Prim.Native.Nat.{◌-◌}
 use mathlib.Core.Path.{refl}
-use Rattle.merging.specs.Merge.{StaysRow}
-use Rattle.merging.proofs.Flagged.{Flagged, flags-start, flags-next, stays-flags}
+use Rattle.merging.proofs.Flagged.{flags-start, flags-next, stays-flags}
 use Rattle.merging.proofs.plan.mark_staying.Goals as goal
 
 pub loop-k-init : goal.loop-k-init

@@ -1,8 +1,6 @@
-use borrow.Author.Rules.{rules}
 use Prim.Native.Nat.{◌-◌}
-use mathlib.Core.Path.{refl}
 use Rattle.merging.specs.Merge.{StaysRow}
-use Rattle.merging.proofs.Flagged.{Flagged, flags-start, flags-next, stays-flags}
+use Rattle.merging.proofs.Flagged.{Flagged}
 use Rattle.merging.proofs.plan.mark_staying.Given as goal
 
 abbrev pub invariant-loop-k : goal.invariant-loop-k

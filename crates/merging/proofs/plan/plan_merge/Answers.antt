@@ -1,5 +1,4 @@
 -- `plan_merge` meets its contract: the sums over the flags are those of the merged jobs (`planned-merge`).
-use borrow.Author.Rules.{rules}
 use native.Mathlib.Omega.{arith}
 use Rattle.merging.proofs.Plans.{planned-merge}
 use Rattle.merging.proofs.plan.plan_merge.Goals as goal

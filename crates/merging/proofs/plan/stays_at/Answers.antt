@@ -1,5 +1,4 @@
 -- `stays_at` meets its contract: ids are distinct, so the remote job that is found is the one that could replace it (`stays-found`).
-use borrow.Author.Rules.{rules}
 use Rattle.merging.proofs.Flagged.{stays-found, stays-missing}
 use mathlib.Core.Path.{refl}
 use Rattle.merging.proofs.plan.stays_at.Goals as goal

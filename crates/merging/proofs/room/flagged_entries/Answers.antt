@@ -1,12 +1,9 @@
 -- `flagged_entries` meets its contract: the invariant is that the sum so far and the sum of the jobs left are the sum of all (`Summed`); a job adds
 -- less than 2^32.
 use borrow.Author.Rules.{rules}
-use Prim.Native.Nat.{◌+◌, ◌-◌, ◌*◌, ◌≤◌}
-use mathlib.Core.Bool.{cond}
-use lib.ListN.{get_or}
+use Prim.Native.Nat.{◌+◌, ◌*◌}
 use native.Mathlib.Omega.{arith}
-use Rattle.rows.specs.Movers.{marked}
-use Rattle.rows.proofs.Sums.{Summed, sum-starts, sum-next, sum-ends}
+use Rattle.rows.proofs.Sums.{sum-starts, sum-next, sum-ends}
 use Rattle.merging.proofs.room.flagged_entries.Goals as goal
 
 pub loop-i-init : goal.loop-i-init

@@ -1,10 +1,8 @@
-use borrow.Author.Rules.{rules}
 use Prim.Native.Nat.{◌+◌, ◌-◌, ◌*◌, ◌≤◌}
 use mathlib.Core.Bool.{cond}
 use lib.ListN.{get_or}
-use native.Mathlib.Omega.{arith}
 use Rattle.rows.specs.Movers.{marked}
-use Rattle.rows.proofs.Sums.{Summed, sum-starts, sum-next, sum-ends}
+use Rattle.rows.proofs.Sums.{Summed}
 use Rattle.merging.proofs.room.flagged_entries.Given as goal
 
 abbrev pub invariant-loop-i : goal.invariant-loop-i

@@ -1,10 +1,6 @@
 -- `flagged_jobs` meets its contract: the invariant is that the sum so far and the sum of the jobs left are the sum of all (`Summed`).
 use borrow.Author.Rules.{rules}
-use Prim.Native.Nat.{◌-◌, ◌≤◌}
-use mathlib.Core.Bool.{cond}
-use lib.ListN.{get_or}
-use Rattle.rows.specs.Movers.{marked}
-use Rattle.rows.proofs.Sums.{Summed, sum-starts, sum-next, sum-ends}
+use Rattle.rows.proofs.Sums.{sum-starts, sum-next, sum-ends}
 use Rattle.merging.proofs.room.flagged_jobs.Goals as goal
 
 pub loop-i-init : goal.loop-i-init

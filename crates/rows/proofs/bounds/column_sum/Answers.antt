@@ -1,10 +1,8 @@
 -- `column_sum` meets its contract: the invariant is that the sum so far and the sum of the rows left are the sum of all (`Summed`); a row adds less than
 -- 2^32.
 use borrow.Author.Rules.{rules}
-use Prim.Native.Nat.{◌+◌, ◌-◌, ◌*◌, ◌≤◌}
 use mathlib.Core.Path.{◌∙◌}
-use lib.ListN.{get_or}
-use Rattle.rows.proofs.Sums.{Summed, sum-starts, sum-next, sum-ends}
+use Rattle.rows.proofs.Sums.{sum-starts, sum-next, sum-ends}
 use Rattle.rows.proofs.bounds.column_sum.Goals as goal
 
 pub loop-i-init : goal.loop-i-init

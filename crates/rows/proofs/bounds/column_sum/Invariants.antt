@@ -1,8 +1,6 @@
-use borrow.Author.Rules.{rules}
 use Prim.Native.Nat.{◌+◌, ◌-◌, ◌*◌, ◌≤◌}
-use mathlib.Core.Path.{◌∙◌}
 use lib.ListN.{get_or}
-use Rattle.rows.proofs.Sums.{Summed, sum-starts, sum-next, sum-ends}
+use Rattle.rows.proofs.Sums.{Summed}
 use Rattle.rows.proofs.bounds.column_sum.Given as goal
 
 abbrev pub invariant-loop-i : goal.invariant-loop-i

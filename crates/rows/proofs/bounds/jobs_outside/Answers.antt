@@ -2,7 +2,6 @@
 use borrow.Author.Tests.{lt-ltb, le-ltb}
 use Rattle.rules.specs.Lent.{sources_used}
 use Rattle.rules.specs.Bounds.{jobs_outside}
-use borrow.Author.Rules.{rules}
 use Rattle.rows.proofs.bounds.jobs_outside.Goals as goal
 
 pub returns-then-count-gt-MAX_JOBS : goal.returns-then-count-gt-MAX_JOBS

@@ -1,7 +1,6 @@
 -- `number_at` meets its contract: past the end `get_or` answers its default, 0.
 use mathlib.Core.Path.{sym}
 use lib.ListN.{get_or-eq_default}
-use borrow.Author.Rules.{rules}
 use Rattle.rows.proofs.bounds.number_at.Goals as goal
 
 pub returns : goal.returns

@@ -2,7 +2,7 @@
 use borrow.Author.Tests.{eq-eqb, ne_eqb, lt-ltb, le-ltb}
 use Rattle.rules.specs.Lent.{l0_used, runs_used}
 use Rattle.rules.specs.Bounds.{trees_outside}
-use borrow.Author.Rules.{rules}
+use native.Mathlib.Omega.{arith}
 use Rattle.rows.proofs.bounds.trees_outside.Goals as goal
 
 pub returns-then-count-eq0 : goal.returns-then-count-eq0
@@ -15,8 +15,8 @@ returns-then-count-gt-MAX_TREES c = λ t n s. rw (n, ne_eqb _ _ c.if-count-eq0.f
 
 pub returns-then-column_sum-gt-MAX_L0 : goal.returns-then-column_sum-gt-MAX_L0
 unfolding trees_outside l0_used
-returns-then-column_sum-gt-MAX_L0 c = λ t n s. rw (n, s, ne_eqb _ _ c.if-count-eq0.false, le-ltb _ _ c.if-count-gt-MAX_TREES.false, ← c.column_sum.ensures, lt-ltb _ _ c.if-column_sum-gt-MAX_L0.true)
+returns-then-column_sum-gt-MAX_L0 c = λ t n s. rw (n, s, ne_eqb _ _ c.if-count-eq0.false, le-ltb 32 c.args.count (omega arith), ← c.column_sum.ensures, lt-ltb _ _ c.if-column_sum-gt-MAX_L0.true)
 
 pub returns : goal.returns
 unfolding trees_outside l0_used runs_used
-returns c = λ t n s. rw (n, s, ne_eqb _ _ c.if-count-eq0.false, le-ltb _ _ c.if-count-gt-MAX_TREES.false, ← c.column_sum.ensures, le-ltb _ _ c.if-column_sum-gt-MAX_L0.false, ← c.column_sum-2.ensures)
+returns c = λ t n s. rw (n, s, ne_eqb _ _ c.if-count-eq0.false, le-ltb 32 c.args.count (omega arith), ← c.column_sum.ensures, le-ltb _ _ c.if-column_sum-gt-MAX_L0.false, ← c.column_sum-2.ensures)

@@ -1,13 +1,7 @@
 -- `find_job` meets its contract: the invariant is that none of the rows so far has the id (`Sought`).
-use borrow.Author.Rules.{rules}
 use mathlib.Core.Path.{sym, ◌∙◌}
-use mathlib.Core.Bool.{not}
-use Prim.Native.Nat.{◌-◌, ◌*◌}
 use native.Mathlib.Nat.{sub-zero}
-use Rattle.rules.specs.Lists.{leading}
-use Rattle.rules.specs.Tables.{same_ulid}
-use Rattle.rules.specs.Lent.{rows_from, ulid_at}
-use Rattle.rows.proofs.Finds.{Sought, seek-starts, seek-on, seek_found, seek-ends}
+use Rattle.rows.proofs.Finds.{seek-starts, seek-on, seek_found, seek-ends}
 use Rattle.rows.proofs.find.find_job.Goals as goal
 
 pub loop-i-init : goal.loop-i-init

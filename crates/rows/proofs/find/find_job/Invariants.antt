@@ -1,12 +1,9 @@
-use borrow.Author.Rules.{rules}
-use mathlib.Core.Path.{sym, ◌∙◌}
 use mathlib.Core.Bool.{not}
 use Prim.Native.Nat.{◌-◌, ◌*◌}
-use native.Mathlib.Nat.{sub-zero}
 use Rattle.rules.specs.Lists.{leading}
 use Rattle.rules.specs.Tables.{same_ulid}
 use Rattle.rules.specs.Lent.{rows_from, ulid_at}
-use Rattle.rows.proofs.Finds.{Sought, seek-starts, seek-on, seek_found, seek-ends}
+use Rattle.rows.proofs.Finds.{Sought}
 use Rattle.rows.proofs.find.find_job.Given as goal
 
 abbrev pub invariant-loop-i : goal.invariant-loop-i

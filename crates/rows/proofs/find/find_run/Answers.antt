@@ -1,13 +1,6 @@
 -- `find_run` meets its contract: the invariant is that none of the rows so far has the id (`Sought`).
-use borrow.Author.Rules.{rules}
 use borrow.Author.Tests.{eq-eqb, ne_eqb}
-use mathlib.Core.Bool.{not}
-use Prim.Native.Nat.{◌-◌}
-use lib.Dec.{eqb}
-use lib.ListN.{get_or}
-use Rattle.rules.specs.Lists.{leading}
-use Rattle.rules.specs.Lent.{rows_from}
-use Rattle.rows.proofs.Finds.{Sought, seek-starts-at, seek-on, seek_found, seek-ends}
+use Rattle.rows.proofs.Finds.{seek-starts-at, seek-on, seek_found, seek-ends}
 use Rattle.rows.proofs.find.find_run.Goals as goal
 
 pub loop-i-init : goal.loop-i-init

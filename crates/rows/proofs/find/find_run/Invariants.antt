@@ -1,12 +1,10 @@
-use borrow.Author.Rules.{rules}
-use borrow.Author.Tests.{eq-eqb, ne_eqb}
 use mathlib.Core.Bool.{not}
 use Prim.Native.Nat.{◌-◌}
 use lib.Dec.{eqb}
 use lib.ListN.{get_or}
 use Rattle.rules.specs.Lists.{leading}
 use Rattle.rules.specs.Lent.{rows_from}
-use Rattle.rows.proofs.Finds.{Sought, seek-starts-at, seek-on, seek_found, seek-ends}
+use Rattle.rows.proofs.Finds.{Sought}
 use Rattle.rows.proofs.find.find_run.Given as goal
 
 abbrev pub invariant-loop-i : goal.invariant-loop-i

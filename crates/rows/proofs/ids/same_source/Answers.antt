@@ -1,5 +1,4 @@
 -- `same_source` meets its contract: the marks decide which parts are compared.
-use borrow.Author.Rules.{rules}
 use borrow.Author.Tests.{eq-eqb, ne_eqb}
 use Rattle.rows.proofs.ids.same_source.Goals as goal
 

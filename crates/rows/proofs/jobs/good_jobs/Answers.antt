@@ -1,6 +1,4 @@
 -- `good_jobs` meets its contract: each return settles one part of `flat_jobs`, in its order.
-use borrow.Author.Rules.{rules}
-use borrow.Author.Tests.{not-true, not-false}
 use mathlib.Core.Path.{sym, ◌∙◌}
 use Rattle.rows.specs.Shape.{flat_jobs}
 use Rattle.rows.proofs.jobs.good_jobs.Goals as goal

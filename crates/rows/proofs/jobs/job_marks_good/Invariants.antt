@@ -1,10 +1,8 @@
-use borrow.Author.Rules.{rules}
-use borrow.Author.Tests.{le-leb, lt-leb}
 use Prim.Native.Nat.{◌-◌}
 use Rattle.rules.specs.Lists.{all}
 use Rattle.rules.specs.Lent.{rows_from}
 use Rattle.rows.specs.Shape.{good_marks_at}
-use Rattle.rows.proofs.Scans.{Left, scan-starts, scan-next, scan-stops, scan-ends}
+use Rattle.rows.proofs.Scans.{Left}
 use Rattle.rows.proofs.jobs.job_marks_good.Given as goal
 
 abbrev pub invariant-loop-i : goal.invariant-loop-i

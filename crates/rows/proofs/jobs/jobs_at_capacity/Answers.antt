@@ -1,7 +1,6 @@
 -- `jobs_at_capacity` meets its contract: each return settles one length, in the order of `jobs_at_capacity`.
 use borrow.Author.Tests.{eq-eqb, ne_eqb}
 use Rattle.rules.specs.Bounds.{jobs_at_capacity}
-use borrow.Author.Rules.{rules}
 use Rattle.rows.proofs.jobs.jobs_at_capacity.Goals as goal
 
 pub returns-then-job_ids : goal.returns-then-job_ids

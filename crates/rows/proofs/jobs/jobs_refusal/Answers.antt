@@ -1,6 +1,4 @@
 -- `jobs_refusal` meets its contract: 1, then 2, as `jobs_refusal` has them; the rules on jobs are read off the slices by `flat-jobs`.
-use borrow.Author.Rules.{rules}
-use borrow.Author.Tests.{not-true, not-false}
 use mathlib.Core.Path.{refl, sym, ◌∙◌}
 use Rattle.rules.specs.Lent.{LentJobs, lent_jobs, sources_used}
 use Rattle.rules.specs.Bounds.{jobs_misshapen, jobs_refusal}

@@ -1,5 +1,4 @@
 -- `sources_good` meets its contract: the lengths first, then the marks; 2n is tested by halves, since it may not fit.
-use borrow.Author.Rules.{rules}
 use borrow.Author.Tests.{eq-eqb, ne_eqb}
 use mathlib.Core.Path.{sym, ◌∙◌}
 use Prim.Native.Nat.{◌*◌}

@@ -1,7 +1,6 @@
 use Prim.Native.Nat.{◌-◌}
-use borrow.Author.Rules.{rules}
 use lib.ListN.{replicate}
-use Rattle.rows.proofs.Paste.{Pasted, pasted-all, zeros-none, zeros-more}
+use Rattle.rows.proofs.Paste.{Pasted}
 use Rattle.rows.proofs.r32.clear.Given as goal
 
 abbrev pub invariant-loop-k : goal.invariant-loop-k

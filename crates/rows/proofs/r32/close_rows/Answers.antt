@@ -1,6 +1,5 @@
 -- `rows::r32::close_rows` meets its contract: its offsets are parts of the room of n rows, and `close-all` says what the copy
 -- and the zeros leave. Assumes nothing.
-use borrow.Author.Rules.{rules}
 use native.Mathlib.Omega.{arith}
 use Rattle.rows.proofs.Gap.{CloseRoom, close-room, close-all}
 use Rattle.rows.proofs.r32.close_rows.Goals as goal

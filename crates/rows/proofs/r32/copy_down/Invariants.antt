@@ -1,7 +1,6 @@
 use Prim.Native.Nat.{◌-◌}
-use borrow.Author.Rules.{rules}
 use lib.ListN.{drop}
-use Rattle.rows.proofs.Paste.{Pasted, pasted-all, down-none, down-more}
+use Rattle.rows.proofs.Paste.{Pasted}
 use Rattle.rows.proofs.r32.copy_down.Given as goal
 
 abbrev pub invariant-loop-k : goal.invariant-loop-k

@@ -1,5 +1,4 @@
-use borrow.Author.Rules.{rules}
-use Rattle.rows.proofs.Paste.{Raised, raised-none, raised-more, raised_all}
+use Rattle.rows.proofs.Paste.{Raised}
 use Rattle.rows.proofs.r32.copy_up.Given as goal
 
 abbrev pub invariant-loop-k : goal.invariant-loop-k

@@ -1,9 +1,8 @@
 -- `rows::r32::keep_rows` meets its contract. The loop's invariant: of the first i rows those kept stand at the front, and
 -- from row i on all is as it was. Assumes nothing.
-use Prim.Native.Nat.{◌-◌}
 use native.Mathlib.Omega.{arith}
 use borrow.Author.Rules.{rules}
-use Rattle.rows.proofs.Pack.{Packed, pack-none, pack-room, pack-skip, pack-more, pack-all}
+use Rattle.rows.proofs.Pack.{pack-none, pack-room, pack-skip, pack-more, pack-all}
 use Rattle.rows.proofs.r32.keep_rows.Goals as goal
 use Rattle.rows.proofs.r32.keep_rows.Goals.{then-marks-i-ne0, else-marks-i-ne0}
 
@@ -23,8 +22,9 @@ pub loop-i-preserved : goal.loop-i-preserved
 loop-i-preserved c =
     let I = c.loop-i.invariant in
     elim c.if-marks-i-ne0.branch [
-      then-marks-i-ne0 w ↦ pack-more I c.loop-i-test.true w.if-marks-i-ne0.true w.copy_down.ensures w.col-is w.to-is
-    | else-marks-i-ne0 w ↦ pack-skip I c.loop-i-test.true w.if-marks-i-ne0.false w.col-is w.to-is ]
+      | then-marks-i-ne0 w ↦ pack-more I c.loop-i-test.true w.if-marks-i-ne0.true w.copy_down.ensures w.col-is w.to-is
+      | else-marks-i-ne0 w ↦ pack-skip I c.loop-i-test.true w.if-marks-i-ne0.false w.col-is w.to-is
+    ]
 
 pub returns : goal.returns
 returns c = pack-all c.loop-i.invariant c.loop-i-test.false c.clear.ensures

@@ -1,8 +1,5 @@
 use Prim.Native.Nat.{◌-◌}
-use mathlib.Core.Logic.{⊎_elim}
-use native.Mathlib.Omega.{arith}
-use borrow.Author.Rules.{rules}
-use Rattle.rows.proofs.Pack.{Packed, pack-none, pack-room, pack-skip, pack-more, pack-all}
+use Rattle.rows.proofs.Pack.{Packed}
 use Rattle.rows.proofs.r32.keep_rows.Given as goal
 
 abbrev pub invariant-loop-i : goal.invariant-loop-i

@@ -1,6 +1,5 @@
 -- `rows::r32::open_rows` meets its contract: its offsets are parts of the room of n + k rows, and `open-all` says what the two
 -- copies leave. Assumes nothing.
-use borrow.Author.Rules.{rules}
 use native.Mathlib.Omega.{arith}
 use Rattle.rows.proofs.Gap.{OpenRoom, open-room, open-all}
 use Rattle.rows.proofs.r32.open_rows.Goals as goal

@@ -1,8 +1,6 @@
 -- `rows::r64::copy_down` meets its contract. The loop's invariant: k numbers are copied. Assumes nothing.
-use Prim.Native.Nat.{◌-◌}
 use borrow.Author.Rules.{rules}
-use lib.ListN.{drop}
-use Rattle.rows.proofs.Paste.{Pasted, pasted-all, down-none, down-more}
+use Rattle.rows.proofs.Paste.{pasted-all, down-none, down-more}
 use Rattle.rows.proofs.r64.copy_down.Goals as goal
 
 pub loop-k-init : goal.loop-k-init

@@ -1,8 +1,6 @@
 -- `rows::r64::copy_in` meets its contract. The loop's invariant: k numbers are copied. Assumes nothing.
-use Prim.Native.Nat.{◌-◌}
 use mathlib.Core.Path.{refl}
-use borrow.Author.Rules.{rules}
-use Rattle.rows.proofs.Paste.{Pasted, pasted-none, pasted-more, pasted-all}
+use Rattle.rows.proofs.Paste.{pasted-none, pasted-more, pasted-all}
 use Rattle.rows.proofs.r64.copy_in.Goals as goal
 
 pub loop-k-init : goal.loop-k-init

@@ -1,7 +1,5 @@
 use Prim.Native.Nat.{◌-◌}
-use mathlib.Core.Path.{refl}
-use borrow.Author.Rules.{rules}
-use Rattle.rows.proofs.Paste.{Pasted, pasted-none, pasted-more, pasted-all}
+use Rattle.rows.proofs.Paste.{Pasted}
 use Rattle.rows.proofs.r64.copy_in.Given as goal
 
 abbrev pub invariant-loop-k : goal.invariant-loop-k

@@ -1,6 +1,6 @@
 -- `rows::r64::copy_up` meets its contract. The loop's invariant: all but the first k numbers are copied. Assumes nothing.
 use borrow.Author.Rules.{rules}
-use Rattle.rows.proofs.Paste.{Raised, raised-none, raised-more, raised_all}
+use Rattle.rows.proofs.Paste.{raised-none, raised-more, raised_all}
 use Rattle.rows.proofs.r64.copy_up.Goals as goal
 
 pub loop-k-init : goal.loop-k-init

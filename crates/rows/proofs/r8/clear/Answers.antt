@@ -1,8 +1,5 @@
 -- `rows::r8::clear` meets its contract. The loop's invariant: k zeros are written. Assumes nothing.
-use Prim.Native.Nat.{◌-◌}
-use borrow.Author.Rules.{rules}
-use lib.ListN.{replicate}
-use Rattle.rows.proofs.Paste.{Pasted, pasted-all, zeros-none, zeros-more}
+use Rattle.rows.proofs.Paste.{pasted-all, zeros-none, zeros-more}
 use Rattle.rows.proofs.r8.clear.Goals as goal
 
 pub loop-k-init : goal.loop-k-init

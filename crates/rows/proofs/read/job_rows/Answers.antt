@@ -1,5 +1,4 @@
 -- `job_rows` meets its contract: the counts of the jobs before it say where its entries start (`part-within`).
-use borrow.Author.Rules.{rules}
 use Prim.Native.Nat.{◌+◌, ◌*◌}
 use native.Mathlib.Omega.{arith}
 use lib.ListN.{get_or}

@@ -1,5 +1,4 @@
 -- `tree_rows` meets its contract: the counts of the trees before it say where its rows start (`part-within`).
-use borrow.Author.Rules.{rules}
 use Prim.Native.Nat.{◌+◌, ◌*◌}
 use native.Mathlib.Omega.{arith}
 use lib.ListN.{get_or}

@@ -1,13 +1,10 @@
 -- `falling` meets its contract: the invariant is that the rows left fall exactly if all do (`Left`); row i is held against the next.
-use borrow.Author.Rules.{rules}
 use borrow.Author.Tests.{lt-ltb, le-ltb}
-use Prim.Native.Nat.{ℕ, ◌-◌}
+use Prim.Native.Nat.{ℕ}
 use native.Mathlib.Omega.{arith}
 use lib.Dec.{ltb}
-use lib.ListN.{get_or}
 use Rattle.rules.specs.Lists.{linked}
-use Rattle.rules.specs.Lent.{rows_from}
-use Rattle.rows.proofs.Scans.{Left, scan-starts-at, scan-ends}
+use Rattle.rows.proofs.Scans.{scan-starts-at, scan-ends}
 use Rattle.rows.proofs.Order.{link-last, link_on, link-breaks}
 use Rattle.rows.proofs.shape.falling.Goals as goal
 

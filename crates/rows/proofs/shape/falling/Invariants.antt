@@ -1,13 +1,9 @@
-use borrow.Author.Rules.{rules}
-use borrow.Author.Tests.{lt-ltb, le-ltb}
-use Prim.Native.Nat.{ℕ, ◌-◌}
-use native.Mathlib.Omega.{arith}
+use Prim.Native.Nat.{◌-◌}
 use lib.Dec.{ltb}
 use lib.ListN.{get_or}
 use Rattle.rules.specs.Lists.{linked}
 use Rattle.rules.specs.Lent.{rows_from}
-use Rattle.rows.proofs.Scans.{Left, scan-starts-at, scan-ends}
-use Rattle.rows.proofs.Order.{link-last, link_on, link-breaks}
+use Rattle.rows.proofs.Scans.{Left}
 use Rattle.rows.proofs.shape.falling.Given as goal
 
 abbrev pub invariant-loop-i : goal.invariant-loop-i

@@ -1,12 +1,8 @@
 -- `marks_good` meets its contract: the invariant is that the test of the rows left is the test of all (`Left`).
 use borrow.Author.Rules.{rules}
 use borrow.Author.Tests.{le-leb, lt-leb}
-use Prim.Native.Nat.{◌-◌, ◌≤◌}
-use lib.ListN.{get_or}
 use Rattle.rules.specs.Lists.{all}
-use Rattle.rules.specs.Lent.{rows_from}
-use Rattle.rules.specs.Bounds.{is_mark}
-use Rattle.rows.proofs.Scans.{Left, scan-starts, scan-next, scan-stops, scan-ends}
+use Rattle.rows.proofs.Scans.{scan-starts, scan-next, scan-stops, scan-ends}
 use Rattle.rows.proofs.shape.marks_good.Goals as goal
 
 pub loop-i-init : goal.loop-i-init

@@ -1,11 +1,9 @@
-use borrow.Author.Rules.{rules}
-use borrow.Author.Tests.{le-leb, lt-leb}
 use Prim.Native.Nat.{◌-◌, ◌≤◌}
 use lib.ListN.{get_or}
 use Rattle.rules.specs.Lists.{all}
 use Rattle.rules.specs.Lent.{rows_from}
 use Rattle.rules.specs.Bounds.{is_mark}
-use Rattle.rows.proofs.Scans.{Left, scan-starts, scan-next, scan-stops, scan-ends}
+use Rattle.rows.proofs.Scans.{Left}
 use Rattle.rows.proofs.shape.marks_good.Given as goal
 
 abbrev pub invariant-loop-i : goal.invariant-loop-i

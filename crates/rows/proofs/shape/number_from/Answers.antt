@@ -1,13 +1,8 @@
 -- `number_from` meets its contract: the invariant is that the test of the rows left is the test of all (`Left`).
-use borrow.Author.Rules.{rules}
 use borrow.Author.Tests.{eq-eqb, ne_eqb}
-use Prim.Native.Nat.{◌-◌, ◌*◌}
 use native.Mathlib.Omega.{arith}
-use lib.Dec.{eqb}
-use lib.ListN.{get_or}
 use Rattle.rules.specs.Lists.{any}
-use Rattle.rules.specs.Lent.{rows_from}
-use Rattle.rows.proofs.Scans.{Left, scan-starts-at, scan-next, scan-stops, scan-ends}
+use Rattle.rows.proofs.Scans.{scan-starts-at, scan-next, scan-stops, scan-ends}
 use Rattle.rows.proofs.Width.{row_within}
 use Rattle.rows.proofs.shape.number_from.Goals as goal
 

@@ -1,13 +1,9 @@
-use borrow.Author.Rules.{rules}
-use mathlib.Core.Path.{sym, ◌∙◌}
 use Prim.Native.Nat.{◌-◌, ◌*◌}
-use native.Mathlib.Omega.{arith}
 use lib.Dec.{eqb}
 use lib.ListN.{get_or}
 use Rattle.rules.specs.Lists.{distinct}
 use Rattle.rules.specs.Lent.{rows_from}
-use Rattle.rows.proofs.Scans.{Left, scan-starts, scan-next, scan-stops, scan-ends}
-use Rattle.rows.proofs.Width.{row_within}
+use Rattle.rows.proofs.Scans.{Left}
 use Rattle.rows.proofs.shape.numbers_distinct.Given as goal
 
 abbrev pub invariant-loop-i : goal.invariant-loop-i

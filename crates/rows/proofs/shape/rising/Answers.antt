@@ -1,13 +1,9 @@
 -- `rising` meets its contract: the invariant is that the rows left rise exactly if all do (`Left`); row i is held against the next.
-use borrow.Author.Rules.{rules}
-use borrow.Author.Tests.{not-true, not-false}
 use mathlib.Core.Path.{sym, ◌∙◌}
-use Prim.Native.Nat.{◌-◌, ◌*◌}
 use native.Mathlib.Omega.{arith}
 use Rattle.rules.specs.Lists.{linked}
 use Rattle.rules.specs.Tables.{ulid_below}
-use Rattle.rules.specs.Lent.{rows_from, ulid_at}
-use Rattle.rows.proofs.Scans.{Left, scan-starts, scan-ends}
+use Rattle.rows.proofs.Scans.{scan-starts, scan-ends}
 use Rattle.rows.proofs.Order.{link-last, link_on, link-breaks}
 use Rattle.rows.proofs.shape.rising.Goals as goal
 

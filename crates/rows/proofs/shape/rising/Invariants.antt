@@ -1,13 +1,8 @@
-use borrow.Author.Rules.{rules}
-use borrow.Author.Tests.{not-true, not-false}
-use mathlib.Core.Path.{sym, ◌∙◌}
 use Prim.Native.Nat.{◌-◌, ◌*◌}
-use native.Mathlib.Omega.{arith}
 use Rattle.rules.specs.Lists.{linked}
 use Rattle.rules.specs.Tables.{ulid_below}
 use Rattle.rules.specs.Lent.{rows_from, ulid_at}
-use Rattle.rows.proofs.Scans.{Left, scan-starts, scan-ends}
-use Rattle.rows.proofs.Order.{link-last, link_on, link-breaks}
+use Rattle.rows.proofs.Scans.{Left}
 use Rattle.rows.proofs.shape.rising.Given as goal
 
 abbrev pub invariant-loop-i : goal.invariant-loop-i

@@ -1,11 +1,7 @@
 -- `view_from` meets its contract: the invariant is that the test of the rows left is the test of all (`Left`).
-use borrow.Author.Rules.{rules}
 use mathlib.Core.Path.{sym, ◌∙◌}
-use Prim.Native.Nat.{◌-◌, ◌*◌}
 use Rattle.rules.specs.Lists.{any}
-use Rattle.rules.specs.Tables.{same_ulid}
-use Rattle.rules.specs.Lent.{rows_from, ulid_at}
-use Rattle.rows.proofs.Scans.{Left, scan-starts-at, scan-next, scan-stops, scan-ends}
+use Rattle.rows.proofs.Scans.{scan-starts-at, scan-next, scan-stops, scan-ends}
 use Rattle.rows.proofs.shape.view_from.Goals as goal
 
 pub loop-i-init : goal.loop-i-init

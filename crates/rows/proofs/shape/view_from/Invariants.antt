@@ -1,10 +1,8 @@
-use borrow.Author.Rules.{rules}
-use mathlib.Core.Path.{sym, ◌∙◌}
 use Prim.Native.Nat.{◌-◌, ◌*◌}
 use Rattle.rules.specs.Lists.{any}
 use Rattle.rules.specs.Tables.{same_ulid}
 use Rattle.rules.specs.Lent.{rows_from, ulid_at}
-use Rattle.rows.proofs.Scans.{Left, scan-starts-at, scan-next, scan-stops, scan-ends}
+use Rattle.rows.proofs.Scans.{Left}
 use Rattle.rows.proofs.shape.view_from.Given as goal
 
 abbrev pub invariant-loop-i : goal.invariant-loop-i

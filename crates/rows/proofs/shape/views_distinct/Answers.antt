@@ -1,11 +1,7 @@
 -- `views_distinct` meets its contract: the invariant is that the rows left are distinct exactly if all are (`Left`).
-use borrow.Author.Rules.{rules}
 use mathlib.Core.Path.{sym, ◌∙◌}
-use Prim.Native.Nat.{◌-◌, ◌*◌}
 use Rattle.rules.specs.Lists.{distinct}
-use Rattle.rules.specs.Tables.{same_ulid}
-use Rattle.rules.specs.Lent.{rows_from, ulid_at}
-use Rattle.rows.proofs.Scans.{Left, scan-starts, scan-next, scan-stops, scan-ends}
+use Rattle.rows.proofs.Scans.{scan-starts, scan-next, scan-stops, scan-ends}
 use Rattle.rows.proofs.shape.views_distinct.Goals as goal
 
 pub loop-i-init : goal.loop-i-init

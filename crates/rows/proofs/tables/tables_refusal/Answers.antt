@@ -1,5 +1,4 @@
 -- `tables_refusal` meets its contract: each return is one case of `tables_refusal` (TwoTables.antt).
-use borrow.Author.Rules.{rules}
 use mathlib.Core.Path.{refl, sym, ◌∙◌}
 use Rattle.rules.specs.Lent.{LentTrees, lent_trees, LentJobs, lent_jobs}
 use Rattle.rows.proofs.TwoTables.{trees-out, jobs-out, trees-bad, jobs-left}

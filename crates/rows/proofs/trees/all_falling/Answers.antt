@@ -1,10 +1,7 @@
 -- `all_falling` meets its contract: the invariant is that the runs of the trees left fall exactly if those of all do (`Falls`).
-use borrow.Author.Rules.{rules}
-use borrow.Author.Tests.{not-true, not-false}
 use mathlib.Core.Path.{sym, ◌∙◌}
-use Prim.Native.Nat.{◌-◌}
 use native.Mathlib.Omega.{arith}
-use Rattle.rows.proofs.Falls.{Falls, falls-starts, runs-within, falls-on, falls-breaks, falls-ends}
+use Rattle.rows.proofs.Falls.{falls-starts, runs-within, falls-on, falls-breaks, falls-ends}
 use Rattle.rows.proofs.trees.all_falling.Goals as goal
 
 pub loop-i-init : goal.loop-i-init

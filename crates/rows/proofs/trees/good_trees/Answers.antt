@@ -1,6 +1,5 @@
 -- `good_trees` meets its contract: each return settles one part of `flat_trees`, in its order.
-use borrow.Author.Rules.{rules}
-use borrow.Author.Tests.{eq-eqb, ne_eqb, not-true, not-false}
+use borrow.Author.Tests.{eq-eqb, ne_eqb}
 use mathlib.Core.Path.{sym, ◌∙◌}
 use Rattle.rows.specs.Shape.{flat_trees}
 use Rattle.rows.proofs.trees.good_trees.Goals as goal

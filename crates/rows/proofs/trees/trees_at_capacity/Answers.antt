@@ -1,7 +1,6 @@
 -- `trees_at_capacity` meets its contract: each return settles one length, in the order of `trees_at_capacity`.
 use borrow.Author.Tests.{eq-eqb, ne_eqb}
 use Rattle.rules.specs.Bounds.{trees_at_capacity}
-use borrow.Author.Rules.{rules}
 use Rattle.rows.proofs.trees.trees_at_capacity.Goals as goal
 
 pub returns-then-trees : goal.returns-then-trees

@@ -1,6 +1,6 @@
 -- `whole_part` holds since its argument's pattern is a field of 127 to 190 and 24 digits, whose shift is the whole part.
-use Rattle.std.proofs.Common.{◌/◌, ◌^◌, ◌≤◌, T, sym, subst, arith, rules}
-use lib.Ieee.{Float, binary32, fits, to_bits}
+use Rattle.std.proofs.Common.{T, sym, subst, arith}
+use lib.Ieee.{binary32, fits}
 use Rattle.size_limit.proofs.Fields as fields
 use Rattle.size_limit.proofs.cutting.whole_part.Goals as goal
 

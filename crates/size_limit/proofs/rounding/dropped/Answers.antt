@@ -1,6 +1,6 @@
 -- `dropped` holds since halving takes one digit away: the digits counted so far, and those that q still has above 24, are
 -- the digits that s has above 24.
-use Rattle.std.proofs.Common.{◌≡◌, ℕ, suc, ◌+◌, ◌-◌, ◌<◌, arith}
+use Rattle.std.proofs.Common.{◌≡◌, ℕ, suc, ◌-◌, ◌<◌, arith}
 use lib.Ieee.{size}
 use lib.Ieee.Digits.{size-le}
 use Rattle.rules.specs.Limit.{dropped}

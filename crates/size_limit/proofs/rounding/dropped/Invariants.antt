@@ -1,8 +1,5 @@
-use Rattle.std.proofs.Common.{◌≡◌, ℕ, suc, ◌+◌, ◌-◌, ◌<◌, arith}
+use Rattle.std.proofs.Common.{◌≡◌, ◌+◌, ◌-◌}
 use lib.Ieee.{size}
-use lib.Ieee.Digits.{size-le}
-use Rattle.rules.specs.Limit.{dropped}
-use Rattle.rules.proofs.Digits.{size-gt, size-half}
 use Rattle.size_limit.proofs.rounding.dropped.Given as goal
 
 abbrev pub invariant-loop-q : goal.invariant-loop-q

@@ -1,6 +1,6 @@
 -- `nearest_single` holds since a size below 2 ^ 24 is a single as it stands, and since of any other the sum of field and
 -- kept digits is the pattern of the nearest single.
-use Rattle.std.proofs.Common.{◌≡◌, ℕ, ◌+◌, ◌*◌, ◌%◌, ◌^◌, ◌<◌, ◌≤◌, false, pos, sym, refl, subst, le_of_lt, arith, le→leb, rules}
+use Rattle.std.proofs.Common.{◌≡◌, ℕ, ◌+◌, ◌*◌, ◌%◌, ◌^◌, ◌<◌, ◌≤◌, false, pos, sym, refl, subst, le_of_lt, arith, le→leb}
 use lib.Ieee.{Float, binary32, size, in_float, of_bits, of_int}
 use lib.Ieee.Exact.{HasValue}
 use Rattle.rules.specs.Limit.{dropped, kept, single_of}

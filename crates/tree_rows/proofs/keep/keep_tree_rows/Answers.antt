@@ -1,6 +1,5 @@
 -- `keep_tree_rows` meets its contract: each slice is packed by the flags, and the two counts are those of the flags in the tree's part.
-use Rattle.tree_rows.proofs.Kept.{run-ids-fit, run-sizes-fit, counts-fit, rows_end, runs-end, rows_few, runs-few, kept-l0-ids, kept-l0-sizes, kept-run-ids, kept-run-sizes, kept-trees}
-use borrow.Author.Rules.{rules}
+use Rattle.tree_rows.proofs.Kept.{run-ids-fit, run-sizes-fit, counts-fit, rows_few, runs-few, kept-l0-ids, kept-l0-sizes, kept-run-ids, kept-run-sizes, kept-trees}
 use Rattle.tree_rows.proofs.keep.keep_tree_rows.Goals as goal
 
 pub keep_rows-requires-3 : goal.keep_rows-requires-3

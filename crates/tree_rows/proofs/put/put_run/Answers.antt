@@ -2,7 +2,6 @@
 use mathlib.Core.Path.{refl}
 use native.Mathlib.Omega.{arith}
 use Rattle.tree_rows.proofs.Putting.{place-within, count-few, put-run-ids, put-run-sizes, put-trees}
-use borrow.Author.Rules.{rules}
 use Rattle.tree_rows.proofs.put.put_run.Goals as goal
 
 pub open_rows-requires : goal.open_rows-requires
@@ -17,7 +16,7 @@ overflow_add-trees-2 c = omega (arith, count-few c.requires)
 pub returns : goal.returns
 returns c =
     λ t e R. record {
-  trees = put-trees c.requires t e R _ refl;
-  run_ids = put-run-ids c.requires t e R _ c.column_sum-runs_used.ensures c.open_rows.ensures;
-  run_sizes = put-run-sizes c.requires t e R _ c.column_sum-runs_used.ensures c.open_rows-2.ensures;
-}
+      trees = put-trees c.requires t e R _ refl;
+      run_ids = put-run-ids c.requires t e R _ c.column_sum-runs_used.ensures c.open_rows.ensures;
+      run_sizes = put-run-sizes c.requires t e R _ c.column_sum-runs_used.ensures c.open_rows-2.ensures;
+    }

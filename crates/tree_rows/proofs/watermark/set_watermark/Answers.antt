@@ -3,7 +3,6 @@ use mathlib.Core.Path.{refl}
 use native.Mathlib.Omega.{arith}
 use lib.ListN.{length-set}
 use Rattle.tree_rows.proofs.Marking.{marks-put, watermarks-put}
-use borrow.Author.Rules.{rules}
 use Rattle.tree_rows.proofs.watermark.set_watermark.Goals as goal
 
 pub bounds-watermark_marks-i-2 : goal.bounds-watermark_marks-i-2
@@ -21,6 +20,6 @@ bounds-watermarks-i-4 c = simp length-set (omega arith)
 pub returns : goal.returns
 returns c =
     λ t h k m. record {
-  watermark_marks = marks-put t _ h k _ c.requires.1 m.watermark_marks refl;
-  watermarks = watermarks-put t _ h k _ c.requires.2 m.watermarks refl;
-}
+      watermark_marks = marks-put t _ h k _ c.requires.1 m.watermark_marks refl;
+      watermarks = watermarks-put t _ h k _ c.requires.2 m.watermarks refl;
+    }
