@@ -16,7 +16,7 @@ use tree_pick::conflict::add_used;
 use tree_pick::pick::{Pick, pick_next_compaction};
 
 // What asking a tree left: how many used ids there are, the next fresh number, and how many picks the tree gave, 0 or 1.
-#[derive(Drop)]
+#[derive(Clone, Copy)]
 pub struct Asked {
     pub n: usize,
     pub fresh: u32,

@@ -1,4 +1,6 @@
 // The passes of a planning call: each asks every tree once. The picks are laid into the lent plan.
+#![tactic(auto)]
+
 pub mod ask;
 pub mod lay;
 pub mod passes;

@@ -12,7 +12,7 @@ use crate::ask::ask_tree;
 use rules::Options;
 
 // How many specs were picked, and "the number of passes that picked something".
-#[derive(Drop)]
+#[derive(Clone, Copy)]
 pub struct Passes {
     pub specs: usize,
     pub passes: usize,

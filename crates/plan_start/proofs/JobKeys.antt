@@ -56,22 +56,23 @@ length-keys prefix source at k = simp (length-map, length-rows_from)
 
 -- ---- one job
 
-module _ {before : List ℕ} {n : ℕ} (job : Job) where
-  -- a finished job uses nothing
-  pub job-idle : 3 < job.status → AddedAll before n (job_keys job) before n
-  unfolding job_keys
-  job-idle h = rw (lt-leb _ _ h) added_none
+-- a finished job uses nothing
+pub idle_keys : (job : Job) → 3 < job.status → job_keys job ≡ []
+unfolding job_keys
+idle_keys job h = rw (lt-leb _ _ h)
 
-  module _ {after : List ℕ} {m : ℕ} (busy : job.status ≤ 3) (s : AddedAll before n (source_keys job.prefix job.sources) after m) where
-    -- a drain uses its sources
-    pub job-drain : job.drain ≡ 1 → AddedAll before n (job_keys job) after m
-    unfolding job_keys source_keys
-    job-drain d = rw (le-leb _ _ busy, eq-eqb _ _ d, append-nil) s
+-- a drain uses its sources
+pub drain_keys : (job : Job) → job.status ≤ 3 → job.drain ≡ 1 → job_keys job ≡ source_keys job.prefix job.sources
+unfolding job_keys source_keys
+drain_keys job h d = rw (le-leb _ _ h, eq-eqb _ _ d, append-nil)
 
-    -- a tiered job its destination too
-    pub job-tiered : {last : List ℕ} → (job.drain ≡ 1 → ⊥) → Added after m (key_of job.prefix (sorted_run job.destination)) last → AddedAll before n (job_keys job) last (m + 1)
-    unfolding job_keys source_keys
-    job-tiered d a = rw (le-leb _ _ busy, ne_eqb _ _ d, map-append) (added_more s a)
+-- a tiered job its destination too
+pub tiered_keys : (job : Job) → job.status ≤ 3 → (job.drain ≡ 1 → ⊥) → job_keys job ≡ source_keys job.prefix job.sources ++ (key_of job.prefix (sorted_run job.destination) ∷ [])
+unfolding job_keys source_keys
+tiered_keys job h d = rw (le-leb _ _ h, ne_eqb _ _ d, map-append)
+
+-- what a job adds to the keys, whichever job it is
+pub ruleset job_turns = (append_assoc, append-nil, length-append, length-keys, idle_keys, drain_keys, tiered_keys)
 
 -- no more keys than sources and a destination
 keys-within : (job : Job) → length (job_keys job) ≤ length job.sources + 1

@@ -1,7 +1,7 @@
 -- Refusal 4: a sum that is tested before it is taken, and the loop over trees.
 use Prim.Native.Nat.{ℕ, zero, suc, ◌+◌, ◌-◌, ◌*◌, ◌^◌, ◌≤◌, ◌<◌}
 use mathlib.Core.Path.{◌≡◌, refl, sym, ap, ◌∙◌}
-use mathlib.Core.List.{List, ◌∷◌, map}
+use mathlib.Core.List.{List, map}
 use mathlib.Core.Bool.{Bool, true, false, ◌||◌}
 use native.Mathlib.Nat.{sub-zero, zero-add, add-zero, add_assoc, not-suc-le-zero, le_of_suc-le-suc}
 use native.Mathlib.Omega.{arith}

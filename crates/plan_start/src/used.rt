@@ -66,6 +66,7 @@ fn add_sources(
 }
 
 // The keys of job i, whose source entries begin at entry `at`: of its sources, and where it is tiered of its destination.
+#[tactic(auto, using(crate::proofs::JobKeys::job_turns))]
 fn add_job(
     used: &mut [u64],
     n: usize,

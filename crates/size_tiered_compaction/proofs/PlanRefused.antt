@@ -82,9 +82,9 @@ or-none false = refl
 
 module _ (o : Options) (t : LentTrees) (j : LentJobs) (p : LentPlan) where
   -- "at most 64 concurrent jobs"
-  pub many-refused : max_concurrent < o.concurrent → 1 ≡ plan_refusal o t j p
+  pub many_refused : max_concurrent < o.concurrent → 1 ≡ plan_refusal o t j p
   unfolding plan_refusal
-  many-refused h = rw (lt-ltb max_concurrent o.concurrent h) (either (trees_outside t) (jobs_outside j) _)
+  many_refused h = rw (lt-ltb max_concurrent o.concurrent h) (either (trees_outside t) (jobs_outside j) _)
 
   module _ (h : o.concurrent ≤ max_concurrent) where
     pub tables-refused : (v : ℕ) → v ≡ tables_refusal t j → (v ≡ 0 → ⊥) → v ≡ plan_refusal o t j p

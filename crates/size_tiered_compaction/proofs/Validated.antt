@@ -3,6 +3,7 @@ use Prim.Native.Nat.{ℕ, zero, suc, ◌*◌, ◌≤◌, ◌<◌}
 use mathlib.Core.Path.{◌≡◌, refl, sym, ap}
 use mathlib.Core.List.{map}
 use mathlib.Core.Bool.{Bool, true, false, ◌&&◌, ◌||◌, not}
+use native.Mathlib.Omega.{arith}
 use lib.Dec.{eqb}
 use lib.ListN.{length}
 use borrow.Author.Tests.{eqb-true, eq-eqb, ne_eqb, le-leb, lt-leb}
@@ -13,7 +14,7 @@ use Rattle.rules.specs.Lent.{LentTrees, trees_of}
 use Rattle.rules.specs.Bounds.{trees_outside, trees_misshapen, trees_refusal, lengths_agree, good_sources}
 use Rattle.rules.specs.Validation.{LentSpec, lent_sources, spec_misshapen, tree_with, tiered_refusal, validate_refusal}
 use Rattle.rules.specs.Calls.{validate_by, validate_call}
-use Rattle.rules.proofs.Bounds.{TreesGood}
+use Rattle.rules.proofs.Bounds.{TreesGood, trees-good}
 use Rattle.rules.proofs.Lookups.{and_left, and_right}
 
 module _ (t : LentTrees) (s : LentSpec) where
@@ -67,6 +68,10 @@ module _ (s : LentSpec) where
       let b = eqb (length s.views) (2 * length s.marks) in
       let both = and_left (a && b) (good_sources (lent_sources s.marks s.runs s.views)) (sym e) in
       (eqb-true _ _ (and_left a b both), eqb-true _ _ (and_right a b both))
+
+-- "drain accepted at once", by the refusals before it
+pub accepted_drain : (t : LentTrees) (s : LentSpec) → trees_refusal t ≡ 0 → lengths_agree s.marks s.runs s.views && good_sources (lent_sources s.marks s.runs s.views) ≡ true → s.drain ≡ 1 → validate_call t s ≡ Accepted
+accepted_drain t s a b d = sym (drain-accepted t s (trees-good t a) (own-sources s true (omega arith) (sym b)) d)
 
 -- ---- the answer of a number
 pub by-refused : (v : ℕ) → (v ≡ 0 → ⊥) → Refused v ≡ validate_by v

@@ -57,8 +57,8 @@ fn planning_refusal(
     runs_len: usize,
     views_len: usize,
 ) -> u32
-    requires tree_count_bound { (tree_count ≤ 32) × (length trees.now ≡ 96) × (length l0_sizes.now ≡ 512) × (length run_sizes.now ≡ 512) × (job_count ≤ 64) × (length job_marks.now ≡ 128) }
-    requires tree_count_bound_2 { (total (rows_from (λ i. get_or trees.now (3 * i + 1) 0) 0 tree_count) ≤ 512) × (total (rows_from (λ i. get_or trees.now (3 * i + 2) 0) 0 tree_count) ≤ 512) }
+    requires tables { (tree_count ≤ 32) × (length trees.now ≡ 96) × (length l0_sizes.now ≡ 512) × (length run_sizes.now ≡ 512) × (job_count ≤ 64) × (length job_marks.now ≡ 128) }
+    requires row_counts { (total (rows_from (λ i. get_or trees.now (3 * i + 1) 0) 0 tree_count) ≤ 512) × (total (rows_from (λ i. get_or trees.now (3 * i + 2) 0) 0 tree_count) ≤ 512) }
     ensures { (t : LentTrees) (j : LentJobs) (p : LentPlan) → t.count ≡ tree_count → t.trees ≡ trees.now → t.l0_sizes ≡ l0_sizes.now → t.run_sizes ≡ run_sizes.now → j.count ≡ job_count → j.job_marks ≡ job_marks.now → Lengths specs_len marks_len runs_len views_len p → result ≡ planning_refusal o t j p }
 {
     if bad_options(o) {
@@ -76,6 +76,7 @@ fn planning_refusal(
 }
 
 // "Checks run 1, 2, then those of the call."
+#[tactic(auto, using(crate::proofs::PlanRefused::many_refused))]
 fn plan_refusal(
     tree_count: usize,
     trees: &[u32],

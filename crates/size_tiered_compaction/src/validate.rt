@@ -95,7 +95,7 @@ fn are_consecutive(
 }
 
 // "the lowest run among the sources", if there is a run.
-#[derive(Drop)]
+#[derive(Clone, Copy)]
 pub enum Lowest {
     Nothing,
     Run(u32),
@@ -181,8 +181,8 @@ fn tiered_refusal(
     runs: &[u32],
     views: &[u64],
 ) -> u32
-    requires count_bound { (count ≤ 32) × (length trees.now ≡ 96) × (length l0_ids.now ≡ 2048) × (length run_ids.now ≡ 512) × (length runs.now ≡ length marks.now) × (length views.now ≡ 2 * length marks.now) }
-    requires count_bound_2 { (total (rows_from (λ i. get_or trees.now (3 * i + 1) 0) 0 count) ≤ 512) × (total (rows_from (λ i. get_or trees.now (3 * i + 2) 0) 0 count) ≤ 512) }
+    requires tables { (count ≤ 32) × (length trees.now ≡ 96) × (length l0_ids.now ≡ 2048) × (length run_ids.now ≡ 512) × (length runs.now ≡ length marks.now) × (length views.now ≡ 2 * length marks.now) }
+    requires row_counts { (total (rows_from (λ i. get_or trees.now (3 * i + 1) 0) 0 count) ≤ 512) × (total (rows_from (λ i. get_or trees.now (3 * i + 2) 0) 0 count) ≤ 512) }
     ensures { (t : LentTrees) → t.count ≡ count → t.trees ≡ trees.now → t.l0_ids ≡ l0_ids.now → t.run_ids ≡ run_ids.now → result ≡ tiered_refusal (map id_of (lent_sources marks.now runs.now views.now)) destination (tree_with prefix (trees_of t)) }
 {
     let i = find_prefix(trees, count, prefix);
@@ -207,6 +207,7 @@ fn tiered_refusal(
 }
 
 // "Validation: drain accepted at once, then 6, 7, 8, 9." The trees are the lent table, and the spec's sources are its own.
+#[tactic(auto, using(crate::proofs::Validated::accepted_drain))]
 pub fn validate(
     tree_count: usize,
     trees: &[u32],

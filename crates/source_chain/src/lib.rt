@@ -1,18 +1,20 @@
 // A chain over a lent list of source records: slatedb's build_compactable_run as it reads its sources. The planner's own builder,
 // in crate tree_pick, reads rows of sizes; that both build the same chain is their contracts.
+#![tactic(auto)]
+
 ghost use Rattle.std.specs.Prelude.{◌≡◌, map, false, cond, ◌≤◌, min, length, drop, eqb, ltb};
 ghost use Rattle.rules.specs.Limit.{limit_of};
 ghost use Rattle.rules.specs.Chain.{chain};
 
 // "a lent list of source records, each an id and a size"
-#[derive(Drop)]
+#[derive(Clone, Copy)]
 pub struct Source {
     pub id: u32,
     pub size: u64,
 }
 
 // Whether a source ends a chain, and else the smallest size with it.
-#[derive(Drop)]
+#[derive(Clone, Copy)]
 pub struct Taken {
     pub over: bool,
     pub least: u64,

@@ -16,7 +16,7 @@ use rows::bounds::wide;
 use rules::Options;
 
 // What a tree gives when it is asked, its sources by their rows in the tree.
-#[derive(Drop)]
+#[derive(Clone, Copy)]
 pub enum Pick {
     Nothing,
     Rows {

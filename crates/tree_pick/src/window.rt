@@ -12,7 +12,7 @@ use rows::bounds::wide;
 use rules::Options;
 
 // Where a window lies among the run ids of a tree; a count of 0 is no window.
-#[derive(Drop)]
+#[derive(Clone, Copy)]
 pub struct Window {
     pub from: usize,
     pub count: usize,
