@@ -1,5 +1,4 @@
 -- `fiervalun::validate::number` meets its contract: a case each. Assumes nothing.
-use mathlib.Core.Path.{refl, ap, sym}
 use Rattle.rules.specs.Calls.{validate_number}
 use Rattle.fiervalun.proofs.validate.number.Goals as goal
 
