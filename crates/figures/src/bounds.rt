@@ -5,34 +5,39 @@ use crate::plan_text::{show_plan, show_planned};
 use crate::trees::{parted, root};
 use lent::trees::Trees;
 use rows::bounds::wide;
+use std::io;
 
 // "Sizes 2^64 - 1 and 1 as runs of one tree: refused 4; in two trees: planned."
-fn large_sizes() {
+fn large_sizes(rt: &impl Print) -> io::Result<()> {
     let one_tree = root(0, 2, &[18446744073709551615, 1]);
     show_plan(
+        rt,
         b"plan runs of 2^64 - 1 and 1 in one tree, min 1",
         b"refused 4",
         one_tree,
         options(4.0, 1, 3, 3),
-    );
+    )?;
     let plan = show_plan(
+        rt,
         b"plan runs of 2^64 - 1 and 1 in two trees, min 1",
         b"2 specs, passes 1",
         parted(one_tree, 1, 1, 1),
         options(4.0, 1, 3, 3),
-    );
-    show_planned(b"prefix 0, 2 to 2", plan, 0);
-    show_planned(b"prefix 1, 1 to 1", plan, 1);
+    )?;
+    show_planned(rt, b"prefix 0, 2 to 2", &plan, 0)?;
+    show_planned(rt, b"prefix 1, 1 to 1", &plan, 1)
 }
 
 // "min 0: refused 3."
-fn no_min() {
+fn no_min(rt: &impl Print) -> io::Result<()> {
     show_plan(
+        rt,
         b"plan the cabinet, min 0",
         b"refused 3",
         cabinet(),
         options(4.0, 0, 3, 3),
-    );
+    )?;
+    Ok(())
 }
 
 // Trees with nothing in them, of the prefixes 0 to 31.
@@ -50,20 +55,28 @@ fn empty_trees() -> Trees {
 }
 
 // "32 trees pass, 33 refused 1."
-fn tree_counts() {
+fn tree_counts(rt: &impl Print) -> io::Result<()> {
     let mut trees = empty_trees();
     show_plan(
+        rt,
         b"plan 32 trees",
         b"0 specs, passes 0",
         trees,
         options(4.0, 2, 3, 3),
-    );
+    )?;
     trees.count = 33;
-    show_plan(b"plan 33 trees", b"refused 1", trees, options(4.0, 2, 3, 3));
+    show_plan(
+        rt,
+        b"plan 33 trees",
+        b"refused 1",
+        trees,
+        options(4.0, 2, 3, 3),
+    )?;
+    Ok(())
 }
 
-pub fn bounds() {
-    large_sizes();
-    no_min();
-    tree_counts();
+pub fn bounds(rt: &impl Print) -> io::Result<()> {
+    large_sizes(rt)?;
+    no_min(rt)?;
+    tree_counts(rt)
 }

@@ -3,6 +3,7 @@ use crate::job_calls::add_job;
 use crate::job_text::{show_answer, show_counts, show_job};
 use crate::print::{call, heading};
 use lent::jobs::{Jobs, merge_jobs, no_jobs};
+use std::io;
 use std::num::wrapping_add_u32;
 
 // The run at place k of sixteen that go down to `low`.
@@ -49,65 +50,77 @@ fn wide(n: u32) -> u64 {
 }
 
 // The counts, the first job and the last, which a refusal leaves as they are.
-fn show_full(jobs: Jobs) {
-    show_counts(b"64 jobs, 1024 entries", jobs);
-    show_job(b"1 Submitted: prefix 0, 16 sources 16 .. 1 to 1", jobs, 0);
+fn show_full(rt: &impl Print, jobs: Jobs) -> io::Result<()> {
+    show_counts(rt, b"64 jobs, 1024 entries", jobs)?;
     show_job(
+        rt,
+        b"1 Submitted: prefix 0, 16 sources 16 .. 1 to 1",
+        jobs,
+        0,
+    )?;
+    show_job(
+        rt,
         b"64 Submitted: prefix 0, 16 sources 1024 .. 1009 to 1009",
         jobs,
         63,
-    );
+    )
 }
 
-fn one_job_more(jobs: Jobs) -> Jobs {
+fn one_job_more(rt: &impl Print, jobs: Jobs) -> io::Result<Jobs> {
     call(
+        rt,
         b"add 65 Submitted: prefix 0, nothing to 2000",
         b"refused 14",
-    );
+    )?;
     let after = add_job(jobs, 65, 0, 0, 0, 2000, &[], &[], &[]);
-    show_answer(after);
-    show_full(after);
-    after
+    show_answer(rt, after)?;
+    show_full(rt, after)?;
+    Ok(after)
 }
 
-fn one_entry_more(jobs: Jobs) -> Jobs {
-    call(b"add 64 anew with 17 entries", b"refused 14");
+fn one_entry_more(rt: &impl Print, jobs: Jobs) -> io::Result<Jobs> {
+    call(rt, b"add 64 anew with 17 entries", b"refused 14")?;
     let after = add_job(jobs, 64, 0, 0, 0, 2000, &[1; 17], &[2000; 17], &[0; 34]);
-    show_answer(after);
-    show_full(after);
-    after
+    show_answer(rt, after)?;
+    show_full(rt, after)?;
+    Ok(after)
 }
 
-fn one_remote_more(jobs: Jobs) -> Jobs {
+fn one_remote_more(rt: &impl Print, jobs: Jobs) -> io::Result<Jobs> {
     call(
+        rt,
         b"merge a remote table with a job 65 of no entries",
         b"refused 14",
-    );
+    )?;
     let remote = add_job(no_jobs(), 65, 0, 0, 0, 2000, &[], &[], &[]);
     let after = merge_jobs(jobs, remote);
-    show_answer(after);
-    show_full(after);
-    after
+    show_answer(rt, after)?;
+    show_full(rt, after)?;
+    Ok(after)
 }
 
 // As many entries as before still fit.
-fn as_many_entries(jobs: Jobs) {
-    call(b"add 64 anew with 16 entries", b"64 jobs");
+fn as_many_entries(rt: &impl Print, jobs: Jobs) -> io::Result<()> {
+    call(rt, b"add 64 anew with 16 entries", b"64 jobs")?;
     let after = add_sixteen(jobs, 64, 2000);
-    show_answer(after);
-    show_counts(b"64 jobs, 1024 entries", after);
+    show_answer(rt, after)?;
+    show_counts(rt, b"64 jobs, 1024 entries", after)?;
     show_job(
+        rt,
         b"64 Submitted: prefix 0, 16 sources 2015 .. 2000 to 2000",
         after,
         63,
-    );
+    )
 }
 
-pub fn full_tables() {
-    heading(b"Full job tables");
+pub fn full_tables(rt: &impl Print) -> io::Result<()> {
+    heading(rt, b"Full job tables")?;
     let jobs = sixty_four();
-    call(b"add 64 jobs of 16 entries each", b"64 jobs");
-    show_answer(jobs);
-    show_full(jobs);
-    as_many_entries(one_remote_more(one_entry_more(one_job_more(jobs))));
+    call(rt, b"add 64 jobs of 16 entries each", b"64 jobs")?;
+    show_answer(rt, jobs)?;
+    show_full(rt, jobs)?;
+    as_many_entries(
+        rt,
+        one_remote_more(rt, one_entry_more(rt, one_job_more(rt, jobs)?)?)?,
+    )
 }

@@ -3,34 +3,35 @@ use crate::print::{counted, number, refused, row, text};
 use crate::spec_text::show_spec;
 use lent::jobs::Jobs;
 use rows::bounds::column_sum;
+use std::io;
 
 // What the last call answered: the new job count, or a refusal.
-pub fn show_answer(jobs: Jobs) {
+pub fn show_answer(rt: &impl Print, jobs: Jobs) -> io::Result<()> {
     if jobs.refusal != 0 {
-        refused(jobs.refusal);
+        refused(rt, jobs.refusal)
     } else {
-        counted(jobs.count, b"job");
-        text(b"\n");
+        counted(rt, jobs.count, b"job")?;
+        text(rt, b"\n")
     }
 }
 
-fn show_status(status: u8) {
+fn show_status(rt: &impl Print, status: u8) -> io::Result<()> {
     match status {
-        0 => text(b"Submitted"),
-        1 => text(b"Scheduled"),
-        2 => text(b"Running"),
-        3 => text(b"Compacted"),
-        4 => text(b"Completed"),
-        5 => text(b"Failed"),
-        _ => text(b"?"),
+        0 => text(rt, b"Submitted"),
+        1 => text(rt, b"Scheduled"),
+        2 => text(rt, b"Running"),
+        3 => text(rt, b"Compacted"),
+        4 => text(rt, b"Completed"),
+        5 => text(rt, b"Failed"),
+        _ => text(rt, b"?"),
     }
 }
 
 // The job in row i, behind what 01 says of it.
-pub fn show_job(expected: &[u8], jobs: Jobs, i: usize) {
-    row(expected);
+pub fn show_job(rt: &impl Print, expected: &[u8], jobs: Jobs, i: usize) -> io::Result<()> {
+    row(rt, expected)?;
     if i >= 64 {
-        return;
+        return Ok(());
     }
     let ids = jobs.ids;
     let marks = jobs.marks;
@@ -38,24 +39,32 @@ pub fn show_job(expected: &[u8], jobs: Jobs, i: usize) {
     let source_marks = jobs.source_marks;
     let source_runs = jobs.source_runs;
     let source_views = jobs.source_views;
-    number(ids[2 * i + 1]);
-    text(b" ");
-    show_status(marks[2 * i]);
-    text(b": ");
+    number(rt, ids[2 * i + 1])?;
+    text(rt, b" ")?;
+    show_status(rt, marks[2 * i])?;
+    text(rt, b": ")?;
     let drain = marks[2 * i + 1];
-    show_spec(&specs, &source_marks, &source_runs, &source_views, i, drain);
+    show_spec(
+        rt,
+        &specs,
+        &source_marks,
+        &source_runs,
+        &source_views,
+        i,
+        drain,
+    )
 }
 
 // How many jobs and source entries there are.
-pub fn show_counts(expected: &[u8], jobs: Jobs) {
-    row(expected);
+pub fn show_counts(rt: &impl Print, expected: &[u8], jobs: Jobs) -> io::Result<()> {
+    row(rt, expected)?;
     if jobs.count > 64 {
-        return;
+        return Ok(());
     }
     let specs = jobs.specs;
     let entries = column_sum(&specs, 2, jobs.count);
-    number(jobs.count as u64);
-    text(b" jobs, ");
-    number(entries as u64);
-    text(b" entries\n");
+    number(rt, jobs.count as u64)?;
+    text(rt, b" jobs, ")?;
+    number(rt, entries as u64)?;
+    text(rt, b" entries\n")
 }

@@ -1,9 +1,11 @@
 // Runs every figure of document 01 through the public calls, then walks of our own, and writes what 01 says of each call and what
 // came of it.
+#![tactic(auto)]
+
 mod bounds;
 mod cabinet;
 mod finish_calls;
-mod finishing;
+mod finishes;
 mod full;
 mod job_calls;
 mod job_text;
@@ -21,22 +23,27 @@ mod tree_text;
 mod trees;
 mod validation;
 
+use std::io;
+
 // "Figures to hold to", in 01's order.
-fn figures() {
-    print::heading(b"Figures of document 01");
-    print::text(b"a, b, c, d are the views 1 to 4 of the SSTs 21 to 24; sizes stand in brackets\n");
-    limits::limits();
-    planning::planning();
-    validation::validation();
-    finishing::finishing();
-    bounds::bounds();
+fn figures(rt: &impl Print) -> io::Result<()> {
+    print::heading(rt, b"Figures of document 01")?;
+    print::text(
+        rt,
+        b"a, b, c, d are the views 1 to 4 of the SSTs 21 to 24; sizes stand in brackets\n",
+    )?;
+    limits::limits(rt)?;
+    planning::planning(rt)?;
+    validation::validation(rt)?;
+    finishes::finishing(rt)?;
+    bounds::bounds(rt)
 }
 
-fn main() {
-    figures();
-    plan_refusals::plan_refusals();
-    jobs::adding_and_merging();
-    full::full_tables();
-    planned_jobs::planned_jobs();
-    refusals::refusals();
+fn main(rt: HostRuntime) -> io::Result<()> {
+    figures(&rt)?;
+    plan_refusals::plan_refusals(&rt)?;
+    jobs::adding_and_merging(&rt)?;
+    full::full_tables(&rt)?;
+    planned_jobs::planned_jobs(&rt)?;
+    refusals::refusals(&rt)
 }

@@ -1,54 +1,55 @@
 // What the figures print.
-use libc::STDOUT_FILENO;
+use std::io;
 
-pub fn text(s: &[u8]) {
-    io::write_all(STDOUT_FILENO, s);
+pub fn text(rt: &impl Print, s: &[u8]) -> io::Result<()> {
+    rt.write_all(s)
 }
 
-pub fn number(n: u64) {
-    io::print_decimal(STDOUT_FILENO, n);
+pub fn number(rt: &impl Print, n: u64) -> io::Result<()> {
+    print!(rt; "{n}")
 }
 
 // A prefix or a run.
-pub fn id(n: u32) {
-    number(n as u64);
+pub fn id(rt: &impl Print, n: u32) -> io::Result<()> {
+    number(rt, n as u64)
 }
 
 // So many of what the word names.
-pub fn counted(n: usize, word: &[u8]) {
-    number(n as u64);
-    text(b" ");
-    text(word);
+pub fn counted(rt: &impl Print, n: usize, word: &[u8]) -> io::Result<()> {
+    number(rt, n as u64)?;
+    text(rt, b" ")?;
+    text(rt, word)?;
     if n != 1 {
-        text(b"s");
+        text(rt, b"s")?;
     }
+    Ok(())
 }
 
 // The answer of a call that refuses.
-pub fn refused(n: u32) {
-    text(b"refused ");
-    id(n);
-    text(b"\n");
+pub fn refused(rt: &impl Print, n: u32) -> io::Result<()> {
+    text(rt, b"refused ")?;
+    id(rt, n)?;
+    text(rt, b"\n")
 }
 
 // What the lines below are about.
-pub fn heading(s: &[u8]) {
-    text(b"== ");
-    text(s);
-    text(b"\n");
+pub fn heading(rt: &impl Print, s: &[u8]) -> io::Result<()> {
+    text(rt, b"== ")?;
+    text(rt, s)?;
+    text(rt, b"\n")
 }
 
 // A call, and what 01 says that it answers; what came follows.
-pub fn call(said: &[u8], expected: &[u8]) {
-    text(said);
-    text(b": expected ");
-    text(expected);
-    text(b", got ");
+pub fn call(rt: &impl Print, said: &[u8], expected: &[u8]) -> io::Result<()> {
+    text(rt, said)?;
+    text(rt, b": expected ")?;
+    text(rt, expected)?;
+    text(rt, b", got ")
 }
 
 // What 01 says of a row; what came follows on the next line, below it.
-pub fn row(expected: &[u8]) {
-    text(b"  expected ");
-    text(expected);
-    text(b"\n  got      ");
+pub fn row(rt: &impl Print, expected: &[u8]) -> io::Result<()> {
+    text(rt, b"  expected ")?;
+    text(rt, expected)?;
+    text(rt, b"\n  got      ")
 }

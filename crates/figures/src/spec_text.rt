@@ -1,67 +1,84 @@
 // A spec of a job or of a plan as text.
 use crate::print::{id, number, text};
 use rows::bounds::{column_sum, wide};
+use std::io;
 
-fn show_source(marks: &[u8; 1024], runs: &[u32; 1024], views: &[u64; 2048], i: usize) {
+fn show_source(
+    rt: &impl Print,
+    marks: &[u8; 1024],
+    runs: &[u32; 1024],
+    views: &[u64; 2048],
+    i: usize,
+) -> io::Result<()> {
     if i >= 1024 {
-        return;
+        return Ok(());
     }
     if marks[i] == 1 {
-        text(b" ");
-        id(runs[i]);
+        text(rt, b" ")?;
+        id(rt, runs[i])?;
     } else {
-        text(b" view ");
-        number(views[2 * i + 1]);
+        text(rt, b" view ")?;
+        number(rt, views[2 * i + 1])?;
     }
+    Ok(())
 }
 
 // The sources at places `at` to `at + n`; of more than four only their number, the first and the last.
-fn show_sources(marks: &[u8; 1024], runs: &[u32; 1024], views: &[u64; 2048], at: usize, n: usize) {
+fn show_sources(
+    rt: &impl Print,
+    marks: &[u8; 1024],
+    runs: &[u32; 1024],
+    views: &[u64; 2048],
+    at: usize,
+    n: usize,
+) -> io::Result<()> {
     if at > 1024 {
-        return;
+        return Ok(());
     }
     if n > 1024 {
-        return;
+        return Ok(());
     }
     if n == 0 {
-        text(b" nothing");
+        text(rt, b" nothing")?;
     }
     if n > 4 {
-        text(b" ");
-        number(n as u64);
-        text(b" sources");
-        show_source(marks, runs, views, at);
-        text(b" ..");
-        show_source(marks, runs, views, at + n - 1);
-        return;
+        text(rt, b" ")?;
+        number(rt, n as u64)?;
+        text(rt, b" sources")?;
+        show_source(rt, marks, runs, views, at)?;
+        text(rt, b" ..")?;
+        show_source(rt, marks, runs, views, at + n - 1)?;
+        return Ok(());
     }
     for i in at..at + n {
-        show_source(marks, runs, views, i);
+        show_source(rt, marks, runs, views, i)?;
     }
+    Ok(())
 }
 
 // Spec i: a drain goes to no run.
 pub fn show_spec(
+    rt: &impl Print,
     specs: &[u32; 192],
     marks: &[u8; 1024],
     runs: &[u32; 1024],
     views: &[u64; 2048],
     i: usize,
     drain: u8,
-) {
+) -> io::Result<()> {
     if i >= 64 {
-        return;
+        return Ok(());
     }
-    text(b"prefix ");
-    id(specs[3 * i]);
-    text(b",");
+    text(rt, b"prefix ")?;
+    id(rt, specs[3 * i])?;
+    text(rt, b",")?;
     let at = column_sum(specs, 2, i);
-    show_sources(marks, runs, views, at, wide(specs[3 * i + 2]));
+    show_sources(rt, marks, runs, views, at, wide(specs[3 * i + 2]))?;
     if drain == 1 {
-        text(b" drained");
+        text(rt, b" drained")?;
     } else {
-        text(b" to ");
-        id(specs[3 * i + 1]);
+        text(rt, b" to ")?;
+        id(rt, specs[3 * i + 1])?;
     }
-    text(b"\n");
+    text(rt, b"\n")
 }

@@ -2,7 +2,7 @@
 use rules::ValidateAnswer;
 use size_tiered_compaction::validate::validate;
 
-#[derive(Drop)]
+#[derive(Clone, Copy)]
 pub struct Trees {
     pub count: usize,
     pub rows: [u32; 96],

@@ -2,7 +2,7 @@
 use crate::reader::{byte, count};
 use crate::unused::{half_of, word_of};
 use crate::{bytes, halves, words};
-use lent::finishing::with_marks;
+use lent::endings::with_marks;
 use lent::jobs::Jobs;
 
 // The byte that unused places hold, the count, and the six slices.

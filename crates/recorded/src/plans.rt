@@ -4,7 +4,7 @@ use crate::reader::{byte, count, half};
 use crate::trees::read_trees;
 use crate::unused::{half_of, word_of};
 use crate::{bytes, halves, words};
-use hex::threshold_of;
+use hex_text::threshold_of;
 use lent::planning::plan_tables;
 use rules::{Options, PlanAnswer};
 

@@ -1,7 +1,7 @@
 // Reads a line of the record: numbers and marks, each with one blank behind it. Behind the line's end there are no more.
 ghost use Rattle.std.specs.Prelude.{◌≤◌};
 
-use hex::{digit, end_of_digits, narrow};
+use hex_text::{digit, end_of_digits, narrow};
 
 fn step(at: usize) -> usize {
     if at < 18446744073709551615 {
@@ -19,7 +19,7 @@ pub fn more(s: &[u8], at: usize) -> bool {
 pub fn number(s: &[u8], at: &mut usize) -> u64 {
     let from = *at;
     *at = step(end_of_digits(s, from));
-    hex::number(s, from)
+    hex_text::number(s, from)
 }
 
 pub fn half(s: &[u8], at: &mut usize) -> u32 {

@@ -1,13 +1,13 @@
 // How many lines there are of each call and answer.
-use libc::STDOUT_FILENO;
+use std::io;
 use std::num::wrapping_add_u64;
 
-fn text(s: &[u8]) {
-    io::write_all(STDOUT_FILENO, s);
+fn text(rt: &impl Print, s: &[u8]) -> io::Result<()> {
+    rt.write_all(s)
 }
 
-fn number(n: u64) {
-    io::print_decimal(STDOUT_FILENO, n);
+fn number(rt: &impl Print, n: u64) -> io::Result<()> {
+    print!(rt; "{n}")
 }
 
 pub fn count_one(rows: &mut [u64; 113], row: usize, counts: bool) {
@@ -16,45 +16,50 @@ pub fn count_one(rows: &mut [u64; 113], row: usize, counts: bool) {
     }
 }
 
-fn show_call(call: usize) {
+fn show_call(rt: &impl Print, call: usize) -> io::Result<()> {
     match call {
-        0 => text(b"plan"),
-        1 => text(b"validate"),
-        2 => text(b"add"),
-        3 => text(b"merge"),
-        4 => text(b"retain"),
-        5 => text(b"finish"),
-        6 => text(b"drain"),
-        _ => text(b"no call"),
+        0 => text(rt, b"plan"),
+        1 => text(rt, b"validate"),
+        2 => text(rt, b"add"),
+        3 => text(rt, b"merge"),
+        4 => text(rt, b"retain"),
+        5 => text(rt, b"finish"),
+        6 => text(rt, b"drain"),
+        _ => text(rt, b"no call"),
     }
 }
 
-fn show_answer(n: usize) {
+fn show_answer(rt: &impl Print, n: usize) -> io::Result<()> {
     if n == 0 {
-        text(b" answered: ");
-        return;
+        return text(rt, b" answered: ");
     }
-    text(b" refused ");
-    number(n as u64);
-    text(b": ");
+    text(rt, b" refused ")?;
+    number(rt, n as u64)?;
+    text(rt, b": ")
 }
 
-fn show_row(row: usize, cases: u64, theirs: u64, agree: u64) {
-    show_call(row / 16);
-    show_answer(row % 16);
-    number(cases);
-    text(b" cases, ");
-    number(theirs);
-    text(b" as slatedb's own code answers, ");
-    number(agree);
-    text(b" agree\n");
+fn show_row(rt: &impl Print, row: usize, cases: u64, theirs: u64, agree: u64) -> io::Result<()> {
+    show_call(rt, row / 16)?;
+    show_answer(rt, row % 16)?;
+    number(rt, cases)?;
+    text(rt, b" cases, ")?;
+    number(rt, theirs)?;
+    text(rt, b" as slatedb's own code answers, ")?;
+    number(rt, agree)?;
+    text(rt, b" agree\n")
 }
 
 // The rows that have a case.
-pub fn show(cases: &[u64; 113], theirs: &[u64; 113], agree: &[u64; 113]) {
+pub fn show(
+    rt: &impl Print,
+    cases: &[u64; 113],
+    theirs: &[u64; 113],
+    agree: &[u64; 113],
+) -> io::Result<()> {
     for row in 0..113 {
         if cases[row] > 0 {
-            show_row(row, cases[row], theirs[row], agree[row]);
+            show_row(rt, row, cases[row], theirs[row], agree[row])?;
         }
     }
+    Ok(())
 }
