@@ -19,7 +19,7 @@ use tree_rows::keep::keep_tree_rows;
 use tree_rows::watermark::set_watermark;
 
 // What drain found: a refusal's number; the job's row, where its segment is missing; or all that the change needs.
-#[derive(Drop)]
+#[derive(Clone, Copy)]
 pub enum Outcome {
     Refused(u32),
     Missing(usize),

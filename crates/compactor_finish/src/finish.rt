@@ -21,7 +21,7 @@ use tree_rows::put::put_run;
 use tree_rows::watermark::set_watermark;
 
 // What finish found: a refusal's number; the job's row, where its segment is missing; or all that the change needs.
-#[derive(Drop)]
+#[derive(Clone, Copy)]
 pub enum Outcome {
     Refused(u32),
     Missing(usize),

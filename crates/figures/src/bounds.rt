@@ -24,8 +24,8 @@ fn large_sizes(rt: &impl Print) -> io::Result<()> {
         parted(one_tree, 1, 1, 1),
         options(4.0, 1, 3, 3),
     )?;
-    show_planned(rt, b"prefix 0, 2 to 2", &plan, 0)?;
-    show_planned(rt, b"prefix 1, 1 to 1", &plan, 1)
+    show_planned(rt, b"prefix 0, 2 to 2", plan, 0)?;
+    show_planned(rt, b"prefix 1, 1 to 1", plan, 1)
 }
 
 // "min 0: refused 3."

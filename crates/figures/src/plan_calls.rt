@@ -4,7 +4,7 @@ use lent::planning::plan_tables;
 use lent::trees::Trees;
 use rules::{Options, PlanAnswer};
 
-#[derive(Drop)]
+#[derive(Clone, Copy)]
 pub struct Plan {
     pub answer: PlanAnswer,
     pub specs: [u32; 192],

@@ -29,7 +29,7 @@ pub fn show_plan(
 }
 
 // Spec k of a plan, behind what 01 says of it.
-pub fn show_planned(rt: &impl Print, expected: &[u8], plan: &Plan, k: usize) -> io::Result<()> {
+pub fn show_planned(rt: &impl Print, expected: &[u8], plan: Plan, k: usize) -> io::Result<()> {
     row(rt, expected)?;
     let specs = plan.specs;
     let marks = plan.marks;
@@ -47,7 +47,7 @@ pub fn show_one_spec(
     o: Options,
 ) -> io::Result<()> {
     let plan = show_plan(rt, said, b"1 spec, passes 1", trees, o)?;
-    show_planned(rt, spec, &plan, 0)
+    show_planned(rt, spec, plan, 0)
 }
 
 // Validates, and prints the answer.

@@ -52,7 +52,7 @@ fn add_part(
 }
 
 // Adds spec k of a plan as a job.
-fn add_spec(jobs: Jobs, job: u64, plan: &Plan, k: usize) -> Jobs {
+fn add_spec(jobs: Jobs, job: u64, plan: Plan, k: usize) -> Jobs {
     if k >= 64 {
         return jobs;
     }
@@ -76,13 +76,13 @@ fn add_spec(jobs: Jobs, job: u64, plan: &Plan, k: usize) -> Jobs {
 
 fn added(rt: &impl Print, plan: Plan) -> io::Result<Jobs> {
     call(rt, b"add the first spec as job 1", b"1 job")?;
-    let one = add_spec(no_jobs(), 1, &plan, 0);
+    let one = add_spec(no_jobs(), 1, plan, 0);
     show_answer(rt, one)?;
     call(rt, b"add the second spec as job 2", b"2 jobs")?;
-    let two = add_spec(one, 2, &plan, 1);
+    let two = add_spec(one, 2, plan, 1);
     show_answer(rt, two)?;
     call(rt, b"add the third spec as job 3", b"3 jobs")?;
-    let three = add_spec(two, 3, &plan, 2);
+    let three = add_spec(two, 3, plan, 2);
     show_answer(rt, three)?;
     show_job(
         rt,

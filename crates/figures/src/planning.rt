@@ -46,9 +46,9 @@ fn plans_of_the_cabinet(rt: &impl Print) -> io::Result<()> {
         cabinet(),
         options(4.0, 2, 3, 3),
     )?;
-    show_planned(rt, b"prefix 0, view 2 view 3 view 4 to 13", &whole, 0)?;
-    show_planned(rt, b"prefix 7, 10 9 to 9", &whole, 1)?;
-    show_planned(rt, b"prefix 0, 12 11 to 11", &whole, 2)?;
+    show_planned(rt, b"prefix 0, view 2 view 3 view 4 to 13", whole, 0)?;
+    show_planned(rt, b"prefix 7, 10 9 to 9", whole, 1)?;
+    show_planned(rt, b"prefix 0, 12 11 to 11", whole, 2)?;
     let part = show_plan(
         rt,
         b"plan the cabinet, F = 2",
@@ -56,8 +56,8 @@ fn plans_of_the_cabinet(rt: &impl Print) -> io::Result<()> {
         cabinet(),
         options(4.0, 2, 3, 2),
     )?;
-    show_planned(rt, b"prefix 0, view 2 view 3 view 4 to 13", &part, 0)?;
-    show_planned(rt, b"prefix 7, 10 9 to 9", &part, 1)?;
+    show_planned(rt, b"prefix 0, view 2 view 3 view 4 to 13", part, 0)?;
+    show_planned(rt, b"prefix 7, 10 9 to 9", part, 1)?;
     show_plan(
         rt,
         b"plan the cabinet, F = 0",

@@ -39,7 +39,7 @@ fn output_place(run_ids: &[u32], first: usize, runs: usize, output: u32) -> usiz
 }
 
 // A refusal's number, or the place among the runs that stay, of all trees.
-#[derive(Drop)]
+#[derive(Clone, Copy)]
 pub enum Place {
     Refused(u32),
     At(usize),

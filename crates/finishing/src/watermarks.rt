@@ -11,7 +11,7 @@ ghost use Rattle.finishing.specs.Placing.{mark_of};
 use rows::find::find_view;
 
 // "a watermark: view id and SST id, each absent or present"
-#[derive(Drop)]
+#[derive(Clone, Copy)]
 pub struct Mark {
     pub view_mark: u8,
     pub sst_mark: u8,

@@ -8,7 +8,7 @@ ghost use Rattle.finishing.specs.Finding.{WorkFound};
 use rows::find::{find_job, find_prefix};
 
 // A refusal's number; or the job's row, where its segment is missing; or the rows of the job and of its tree.
-#[derive(Drop)]
+#[derive(Clone, Copy)]
 pub enum Work {
     Refused(u32),
     Missing(usize),

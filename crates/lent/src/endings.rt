@@ -13,7 +13,7 @@ pub enum Ending {
 }
 
 // The tables, and the answer of the call that left them.
-#[derive(Drop)]
+#[derive(Clone, Copy)]
 pub struct Left {
     pub answer: FinishAnswer,
     pub trees: Trees,

@@ -31,17 +31,17 @@ pub fn no_jobs() -> Jobs {
 }
 
 // The refusal of an answer, 0 for none.
-fn refusal_of(answer: &JobsAnswer) -> u32 {
+fn refusal_of(answer: JobsAnswer) -> u32 {
     match answer {
         JobsAnswer::Jobs(_) => 0,
-        JobsAnswer::Refused(n) => *n,
+        JobsAnswer::Refused(n) => n,
     }
 }
 
 // The job count after a call on `old` jobs.
-fn count_of(answer: &JobsAnswer, old: usize) -> usize {
+fn count_of(answer: JobsAnswer, old: usize) -> usize {
     match answer {
-        JobsAnswer::Jobs(n) => *n,
+        JobsAnswer::Jobs(n) => n,
         JobsAnswer::Refused(_) => old,
     }
 }
@@ -83,8 +83,8 @@ pub fn add_job(
         views,
     );
     Jobs {
-        refusal: refusal_of(&answer),
-        count: count_of(&answer, jobs.count),
+        refusal: refusal_of(answer),
+        count: count_of(answer, jobs.count),
         ids,
         marks: job_marks,
         specs,
@@ -128,8 +128,8 @@ fn merge_remote(
         remote_source_views,
     );
     Jobs {
-        refusal: refusal_of(&answer),
-        count: count_of(&answer, jobs.count),
+        refusal: refusal_of(answer),
+        count: count_of(answer, jobs.count),
         ids,
         marks,
         specs,
@@ -175,8 +175,8 @@ pub fn retain_jobs(jobs: Jobs) -> Jobs {
         &mut source_views,
     );
     Jobs {
-        refusal: refusal_of(&answer),
-        count: count_of(&answer, jobs.count),
+        refusal: refusal_of(answer),
+        count: count_of(answer, jobs.count),
         ids,
         marks,
         specs,

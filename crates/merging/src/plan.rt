@@ -88,7 +88,7 @@ fn mark_staying(
 }
 
 // The refusal, 0 for none, and the flags: of the remote jobs that are taken, and of the local ones that stay.
-#[derive(Drop)]
+#[derive(Clone, Copy)]
 pub struct MergePlan {
     pub refusal: u32,
     pub taken: [u8; 64],

@@ -26,15 +26,15 @@ pub fn retain_agrees(s: &[u8], at: &mut usize, n: u32) -> bool {
     jobs_agree(s, at, n, jobs, retain_jobs(jobs))
 }
 
-fn refusal_of(answer: &FinishAnswer) -> u32 {
+fn refusal_of(answer: FinishAnswer) -> u32 {
     match answer {
         FinishAnswer::Committed => 0,
         FinishAnswer::SegmentMissing => 0,
-        FinishAnswer::Refused(n) => *n,
+        FinishAnswer::Refused(n) => n,
     }
 }
 
-fn is_missing(answer: &FinishAnswer) -> bool {
+fn is_missing(answer: FinishAnswer) -> bool {
     match answer {
         FinishAnswer::Committed => false,
         FinishAnswer::SegmentMissing => true,
@@ -50,8 +50,8 @@ fn tables_agree(s: &[u8], at: &mut usize, n: u32, trees: Trees, jobs: Jobs, left
     let answer = left.answer;
     let left_trees = left.trees;
     let left_jobs = left.jobs;
-    refusal_of(&answer) == n
-        && is_missing(&answer) == missing
+    refusal_of(answer) == n
+        && is_missing(answer) == missing
         && same_trees(left_trees, said_trees)
         && same_jobs(left_jobs, said_jobs)
 }

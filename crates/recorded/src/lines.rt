@@ -6,7 +6,7 @@ use crate::reader::{half, mark};
 use crate::specs::{add_agrees, validate_agrees};
 
 // `row` is that of the call and the answer, 16 answers to a call; the last is for lines that are none.
-#[derive(Drop)]
+#[derive(Clone, Copy)]
 pub struct Told {
     pub row: usize,
     pub theirs: bool,

@@ -4,7 +4,7 @@ ghost use Rattle.rows.specs.Read.{Stands, Entries};
 
 use crate::bounds::{column_sum, wide};
 
-#[derive(Drop)]
+#[derive(Clone, Copy)]
 pub struct TreeRows {
     pub first_row: usize,
     pub rows: usize,
@@ -25,7 +25,7 @@ pub fn tree_rows(trees: &[u32], n: usize, i: usize) -> TreeRows
     }
 }
 
-#[derive(Drop)]
+#[derive(Clone, Copy)]
 pub struct JobRows {
     pub first: usize,
     pub count: usize,

@@ -12,27 +12,27 @@ pub struct Options {
 }
 
 // The answers of the public calls. `Refused` holds 01's number.
-#[derive(Drop)]
+#[derive(Clone, Copy)]
 pub enum PlanAnswer {
     Planned { specs: usize, passes: usize },
     Refused(u32),
 }
 
-#[derive(Drop)]
+#[derive(Clone, Copy)]
 pub enum ValidateAnswer {
     Accepted,
     Refused(u32),
 }
 
 // Adding, merging and retention answer the new job count.
-#[derive(Drop)]
+#[derive(Clone, Copy)]
 pub enum JobsAnswer {
     Jobs(usize),
     Refused(u32),
 }
 
 // Finish and drain.
-#[derive(Drop)]
+#[derive(Clone, Copy)]
 pub enum FinishAnswer {
     Committed,
     SegmentMissing,
