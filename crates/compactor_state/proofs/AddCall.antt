@@ -39,8 +39,8 @@ and_none true b h = sym h
 and_none false b h = refl
 
 -- more entries than there are places, whatever else is in use
-pub full-beyond : (flags specs : List ℕ) (count n : ℕ) → max_sources < n → 14 ≡ refused_full flags specs count n
-full-beyond flags specs count n h =
+pub full_beyond : (flags specs : List ℕ) (count n : ℕ) → max_sources < n → 14 ≡ refused_full flags specs count n
+full_beyond flags specs count n h =
     let entries = total (rows_from (λ k. cond (marked (get_or flags k 0)) (get_or specs (3 * k + 2) 0) 0) 0 count) in
     go (ltb max_jobs (total (rows_from (λ k. cond (marked (get_or flags k 0)) 1 0) 0 count) + 1)) (ltb max_sources (entries + n)) (lt-ltb max_sources (entries + n) (omega arith))
   where

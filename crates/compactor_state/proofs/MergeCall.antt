@@ -17,7 +17,7 @@ use Rattle.rules.specs.Jobs.{merged, too_many, merge_refusal}
 use Rattle.rules.specs.Calls.{merge_call}
 use Rattle.rules.proofs.Bounds.{JobsGood, jobs-good}
 use Rattle.rules.proofs.Lookups.{and_left, and_right, all-at}
-use Rattle.rules.proofs.Rows.{length-rows_from, getD-rows_from}
+use Rattle.rules.proofs.Rows.{length-rows_from, get_or-rows_from}
 use Rattle.rules.proofs.Inserting.{rising}
 use Rattle.rows.specs.Shape.{good_marks_at, flat_jobs}
 use Rattle.rows.proofs.Shapes.{flat-jobs}
@@ -119,7 +119,7 @@ good-rows j g =
       entries = g.within.sources;
       rises = and_left ids (states && entries) flat;
       status = λ k h.
-          let row : get_or (rows_from (λ m. m) 0 j.count) k 0 ≡ k = getD-rows_from (λ m. m) 0 j.count k 0 h ∙ zero-add k in
+          let row : get_or (rows_from (λ m. m) 0 j.count) k 0 ≡ k = get_or-rows_from (λ m. m) 0 j.count k 0 h ∙ zero-add k in
           let good : good_marks_at j.job_marks k ≡ true =
           ap (good_marks_at j.job_marks) (sym row) ∙ all-at (good_marks_at j.job_marks) 0 (rows_from (λ m. m) 0 j.count) (and_left states entries (and_right ids (states && entries) flat)) k (rw length-rows_from h) in
           leb-true (get_or j.job_marks (2 * k) 0) 5 (and_left (leb (get_or j.job_marks (2 * k) 0) 5) (is_mark (get_or j.job_marks (2 * k + 1) 0)) good);

@@ -86,6 +86,7 @@ fn mark_others(job_count: usize, job_ids: &[u64], id_high: u64, id_low: u64) -> 
 }
 
 // 14, 0 for none: the jobs that stay and one of `n` entries exceed "64 jobs, 1,024 entries". `n` may be as large as it likes.
+#[tactic(auto, using(crate::proofs::AddCall::full_beyond))]
 fn room_refusal(staying: &[u8; 64], job_specs: &[u32], job_count: usize, n: usize) -> u32
     requires { (job_count ≤ 64) × (3 * job_count ≤ length job_specs.now) }
     ensures { result ≡ refused_full staying.now job_specs.now job_count n }

@@ -14,7 +14,7 @@ use Rattle.rules.specs.Lent.{LentTrees, LentJobs, rows_from, ulid_at, jobs_of, j
 use Rattle.rules.specs.Bounds.{is_mark, good_sources, good_job, good_jobs}
 use Rattle.rules.specs.Finish.{finish_job_refusal, drain_job_refusal}
 use Rattle.rules.proofs.Appended.{any_append}
-use Rattle.rules.proofs.Rows.{length-rows_from, getD-rows_from}
+use Rattle.rules.proofs.Rows.{length-rows_from, get_or-rows_from}
 use Rattle.rules.proofs.Lookups.{and_left, and_right, all-at}
 use Rattle.rules.proofs.Packed.{length-jobs_of, job_is}
 use Rattle.rows.proofs.Finds.{Sought, seek-starts-at}
@@ -121,7 +121,7 @@ module _ {l : List ℕ} {g : ℕ → ℕ} {a n : ℕ} where
   flags-start h = record { pasted = pasted-none (omega (arith, length-rows_from g a n)) h }
 
   pub flags-next : {now : List ℕ} {k v : ℕ} → Flagging l g a n now k → k < n → v ≡ g (a + k) → Flagging l g a n (set now (a + k) v) (k + 1)
-  flags-next f h e = record { pasted = pasted-more f.pasted h (e ∙ sym (getD-rows_from g a n _ 0 h)) }
+  flags-next f h e = record { pasted = pasted-more f.pasted h (e ∙ sym (get_or-rows_from g a n _ 0 h)) }
 
   pub flags-end : {now : List ℕ} {k : ℕ} → Flagging l g a n now k → n ≤ k → now ≡ paste l a (rows_from g a n) n
   flags-end f h = pasted-all f.pasted h

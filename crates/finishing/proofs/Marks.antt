@@ -13,7 +13,7 @@ use Rattle.rules.specs.Lists.{leading, keep}
 use Rattle.rules.specs.Tables.{Ulid, same_ulid, L0Row, Tree}
 use Rattle.rules.specs.Lent.{LentTrees, rows_from, ulid_at, l0_at}
 use Rattle.rules.specs.Finish.{absent, row_of_view, mark_at, finish_mark, drain_mark}
-use Rattle.rules.proofs.Rows.{length-rows_from, getD-rows_from, map-rows_from}
+use Rattle.rules.proofs.Rows.{length-rows_from, get_or-rows_from, map-rows_from}
 use Rattle.rules.proofs.Lookups.{leading-found, leading-none}
 use Rattle.rules.proofs.Records.{ulid-eq, watermark-eq}
 use Rattle.rows.specs.Movers.{marked}
@@ -46,7 +46,7 @@ module _ (t : LentTrees) (u : Ulid) (first rows m : ℕ) (place : m ≡ leading 
   view-there h =
       leading-found (λ (v : L0Row). same_ulid v.view u) (l0_at t 0) (rows_from (l0_at t) first rows) (omega (arith, length-rows_from (l0_at t) first rows, among-rows))
       ∙ ap (λ (k : ℕ). some (get_or (rows_from (l0_at t) first rows) k (l0_at t 0))) (sym among-rows)
-      ∙ ap some (getD-rows_from (l0_at t) first rows m (l0_at t 0) h)
+      ∙ ap some (get_or-rows_from (l0_at t) first rows m (l0_at t 0) h)
 
   view-gone : rows ≤ m → row_of_view u (rows_from (l0_at t) first rows) ≡ none
   view-gone h = leading-none (λ (v : L0Row). same_ulid v.view u) (rows_from (l0_at t) first rows) (omega (arith, length-rows_from (l0_at t) first rows, among-rows))
@@ -110,7 +110,7 @@ module _ (t : LentTrees) (x : Tree) (p : L0Row → Bool) (kept : List ℕ) (firs
   pub drain-there : m < rows → record { view_mark = 1; sst_mark = 1; view = ulid_at t.l0_ids (4 * (first + m)); sst = record { high = get_or t.l0_ids (4 * (first + m) + 2) 0; low = get_or t.l0_ids (4 * (first + m) + 3) 0 } } ≡ drain_mark (keep p (rows_from (l0_at t) first rows)) x
   drain-there h =
       watermark-eq refl refl refl (ulid-eq refl (ap (λ (k : ℕ). get_or t.l0_ids k 0) (omega arith)))
-      ∙ ap (λ (v : L0Row). mark_at v.view (some v)) (sym (ap (λ (k : ℕ). get_or (rows_from (l0_at t) first rows) k (l0_at t 0)) (sym by_row) ∙ getD-rows_from (l0_at t) first rows m (l0_at t 0) h))
+      ∙ ap (λ (v : L0Row). mark_at v.view (some v)) (sym (ap (λ (k : ℕ). get_or (rows_from (l0_at t) first rows) k (l0_at t 0)) (sym by_row) ∙ get_or-rows_from (l0_at t) first rows m (l0_at t 0) h))
       ∙ sym (first-source p (l0_at t 0) x (rows_from (l0_at t) first rows) (omega (arith, length-rows_from (l0_at t) first rows, by_row)))
 
   pub drain-stays : rows ≤ m → x.watermark ≡ drain_mark (keep p (rows_from (l0_at t) first rows)) x

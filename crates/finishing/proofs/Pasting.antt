@@ -11,7 +11,7 @@ use Rattle.rules.specs.Tables.{SourceId, id_of, among, sorted_run, sst_view, vie
 use Rattle.rules.specs.Lent.{LentTrees, LentJobs, rows_from, ulid_at, l0_at, run_at, source_at, source_count, l0_used, runs_used}
 use Rattle.rules.specs.Bounds.{max_l0, max_runs}
 use Rattle.rules.specs.Finish.{named}
-use Rattle.rules.proofs.Rows.{length-rows_from, getD-rows_from, map-rows_from}
+use Rattle.rules.proofs.Rows.{length-rows_from, get_or-rows_from, map-rows_from}
 use Rattle.rows.specs.Movers.{marked}
 use Rattle.rows.specs.Read.{Stands, Entries}
 use Rattle.tree_rows.proofs.Flagged.{l0-flags, run-flags}
@@ -76,7 +76,7 @@ module _ (m : ℕ) (goes : ℕ → Bool) (a n : ℕ) (room : a + n ≤ m) {flags
   stay-own : (k : ℕ) → k < n → marked (get_or kept (a + k) 0) ≡ not (goes (a + k))
   stay-own k h =
       ap (λ (r : List ℕ). marked (get_or r (a + k) 0)) made
-      ∙ ap marked (inside flags S a n within written k h ∙ getD-rows_from (λ k. flag_of (goes k)) a n k 0 h)
+      ∙ ap marked (inside flags S a n within written k h ∙ get_or-rows_from (λ k. flag_of (goes k)) a n k 0 h)
       ∙ says-not (goes (a + k))
 
   stay-behind : (k : ℕ) → a + n ≤ k → k < m → marked (get_or kept k 0) ≡ true

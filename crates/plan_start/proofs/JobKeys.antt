@@ -71,6 +71,18 @@ pub tiered_keys : (job : Job) → job.status ≤ 3 → (job.drain ≡ 1 → ⊥)
 unfolding job_keys source_keys
 tiered_keys job h d = rw (le-leb _ _ h, ne_eqb _ _ d, map-append)
 
+-- and so what a job adds to the keys before it, as the table has them
+module _ {before : List ℕ} {n : ℕ} (job : Job) where
+  pub job-idle : 3 < job.status → AddedAll before n (job_keys job) before n
+  job-idle h = rw (idle_keys job h) added_none
+
+  module _ {after : List ℕ} {m : ℕ} (busy : job.status ≤ 3) (s : AddedAll before n (source_keys job.prefix job.sources) after m) where
+    pub job-drain : job.drain ≡ 1 → AddedAll before n (job_keys job) after m
+    job-drain d = rw (drain_keys job busy d) s
+
+    pub job-tiered : {last : List ℕ} → (job.drain ≡ 1 → ⊥) → Added after m (key_of job.prefix (sorted_run job.destination)) last → AddedAll before n (job_keys job) last (m + 1)
+    job-tiered d a = rw (tiered_keys job busy d) (added_more s a)
+
 -- what a job adds to the keys, whichever job it is
 pub ruleset job_turns = (append_assoc, append-nil, length-append, length-keys, idle_keys, drain_keys, tiered_keys)
 

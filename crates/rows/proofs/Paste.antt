@@ -96,8 +96,8 @@ paste-before l t f m ht hf =
     ∙ rw (drop-cons l f 0 hf, e, append_assoc)
 
 -- before what is written a list is as it was
-getD-before : (d s : List ℕ) (at n i : ℕ) → at ≤ length d → i < at → get_or (paste d at s n) i 0 ≡ get_or d i 0
-getD-before d s at n i hd h =
+get_or-before : (d s : List ℕ) (at n i : ℕ) → at ≤ length d → i < at → get_or (paste d at s n) i 0 ≡ get_or d i 0
+get_or-before d s at n i hd h =
     let l : length (take at d) ≡ at = length-take-le at d hd in
     ap (λ (r : List ℕ). get_or r i 0) (append_assoc (take at d) (take n s) (drop (at + n) d))
     ∙ get_or-append (take at d) (take n s ++ drop (at + n) d) 0 i (omega arith)
@@ -111,7 +111,7 @@ raised-more {l} {a} {to} {from} {n} {k} I pos =
     let en : n - (k - 1) ≡ suc (n - k) = omega arith in
     let here : get_or a (from + (k - 1)) 0 ≡ get_or l (from + (k - 1)) 0 =
     ap (λ (r : List ℕ). get_or r (from + (k - 1)) 0) I.is
-    ∙ getD-before l (drop (from + k) l) (to + k) (n - k) (from + (k - 1)) (omega arith) (omega arith) in
+    ∙ get_or-before l (drop (from + k) l) (to + k) (n - k) (from + (k - 1)) (omega arith) (omega arith) in
     record {
       above = I.above;
       room = I.room;

@@ -19,11 +19,11 @@ module _ {ℓ} {A : Type ℓ} where
   length-rows_from f i (suc n) = ap suc (length-rows_from f (i + 1) n)
 
   -- row k of them
-  pub getD-rows_from : (f : ℕ → A) (i n k : ℕ) (d : A) → k < n → get_or (rows_from f i n) k d ≡ f (i + k)
+  pub get_or-rows_from : (f : ℕ → A) (i n k : ℕ) (d : A) → k < n → get_or (rows_from f i n) k d ≡ f (i + k)
   unfolding rows_from
-  getD-rows_from f i zero k d h = absurd (not-suc-le-zero h)
-  getD-rows_from f i (suc n) zero d h = sym (ap f (add-zero i))
-  getD-rows_from f i (suc n) (suc k) d h = getD-rows_from f (i + 1) n k d (le_of_suc-le-suc h) ∙ ap f (omega arith)
+  get_or-rows_from f i zero k d h = absurd (not-suc-le-zero h)
+  get_or-rows_from f i (suc n) zero d h = sym (ap f (add-zero i))
+  get_or-rows_from f i (suc n) (suc k) d h = get_or-rows_from f (i + 1) n k d (le_of_suc-le-suc h) ∙ ap f (omega arith)
 
   -- some rows, and the rows after them
   pub rows_from-append : (f : ℕ → A) (i m n : ℕ) → rows_from f i (m + n) ≡ rows_from f i m ++ rows_from f (i + m) n

@@ -7,7 +7,7 @@ use native.Mathlib.Omega.{arith}
 use lib.ListN.{length, drop, get_or, length-take}
 use lib.Seq.{get_or-take, take_at}
 use Rattle.rules.specs.Chain.{chain}
-use Rattle.rules.proofs.Rows.{length-rows_from, getD-rows_from}
+use Rattle.rules.proofs.Rows.{length-rows_from, get_or-rows_from}
 use Rattle.tree_pick.specs.Backpressure.{chains_of, Chains}
 
 -- a table that was filled holds them
@@ -27,5 +27,5 @@ module _ {lim : ℕ → ℕ} {sizes chains : List ℕ} (t : Chains lim sizes cha
   chain-at i h =
       sym (get_or-take (length sizes) chains i 0 h)
       ∙ ap (λ (s : List ℕ). get_or s i 0) t.holds
-      ∙ getD-rows_from (λ i. chain lim (drop i sizes)) 0 (length sizes) i 0 h
+      ∙ get_or-rows_from (λ i. chain lim (drop i sizes)) 0 (length sizes) i 0 h
       ∙ ap (λ (k : ℕ). chain lim (drop k sizes)) (zero-add i)

@@ -8,7 +8,7 @@ use lib.ListN.{length, get_or}
 use Rattle.rules.specs.Lists.{total}
 use Rattle.rules.specs.Tables.{L0Row, Run, Tree}
 use Rattle.rules.specs.Lent.{LentTrees, rows_from, l0_at, run_at, l0_count, run_count, tree_at, trees_of, l0_used, runs_used}
-use Rattle.rules.proofs.Rows.{getD-rows_from}
+use Rattle.rules.proofs.Rows.{get_or-rows_from}
 use Rattle.rules.proofs.Packed.{length-trees_of, length-l0, length_runs, tree_is}
 use Rattle.rows.specs.Movers.{marked}
 use Rattle.rows.specs.Read.{Stands}
@@ -39,7 +39,7 @@ module _ (t : LentTrees) (i : ℕ) (there : i < t.count) {l c r d : ℕ} (at : S
       row : (k : ℕ) → k < c → get_or (get_or (trees_of t) i none).l0 k (l0_at t 0) ≡ l0_at t (l + k)
       row k h =
           ap (λ (x : Tree). get_or x.l0 k (l0_at t 0)) (tree_is t i none there)
-          ∙ getD-rows_from (l0_at t) (total (rows_from (l0_count t) 0 i)) (l0_count t i) k (l0_at t 0) (omega (arith, at.rows))
+          ∙ get_or-rows_from (l0_at t) (total (rows_from (l0_count t) 0 i)) (l0_count t i) k (l0_at t 0) (omega (arith, at.rows))
           ∙ ap (λ (n : ℕ). l0_at t (n + k)) (sym at.first_row)
 
   -- runs, likewise
@@ -57,5 +57,5 @@ module _ (t : LentTrees) (i : ℕ) (there : i < t.count) {l c r d : ℕ} (at : S
       row : (k : ℕ) → k < d → get_or (get_or (trees_of t) i none).runs k (run_at t 0) ≡ run_at t (r + k)
       row k h =
           ap (λ (x : Tree). get_or x.runs k (run_at t 0)) (tree_is t i none there)
-          ∙ getD-rows_from (run_at t) (total (rows_from (run_count t) 0 i)) (run_count t i) k (run_at t 0) (omega (arith, at.runs))
+          ∙ get_or-rows_from (run_at t) (total (rows_from (run_count t) 0 i)) (run_count t i) k (run_at t 0) (omega (arith, at.runs))
           ∙ ap (λ (n : ℕ). run_at t (n + k)) (sym at.first_run)

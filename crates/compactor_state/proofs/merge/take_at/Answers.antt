@@ -3,7 +3,7 @@ use native.Mathlib.Omega.{arith}
 use mathlib.Core.Path.{refl, ap}
 use Prim.Native.Nat.{ℕ, ◌+◌}
 use Rattle.rules.specs.Lent.{LentJobs, lent_jobs}
-use Rattle.compactor_state.proofs.Taking.{took_none, part_room, part-put}
+use Rattle.compactor_state.proofs.Taking.{part_room, part-put}
 use Rattle.compactor_state.proofs.merge.take_at.Goals as goal
 
 pub offset_bounds-remote_source_views-from : goal.offset_bounds-remote_source_views-from
