@@ -12,4 +12,5 @@ pub mod Shapes
 pub mod Falls
 pub mod Finds
 pub mod Found
+pub mod OneTable
 pub mod TwoTables

@@ -1,6 +1,6 @@
 -- `drain` meets its contract: what was found is one case of `drain_call`, and the steps of the change make that case's table (`drain-leaves`).
 use mathlib.Core.Path.{refl}
-use Rattle.rules.specs.Lent.{LentTrees, LentJobs, lent_trees, lent_jobs}
+use Rattle.rules.specs.Lent.{LentJobs, lent_jobs}
 use Rattle.compactor_finish.proofs.Leaving.{drain-is, leaves-refused, leaves-missing, drain-keep-asks, drain-watermark-asks, drain-leaves}
 use Rattle.compactor_finish.proofs.drain.drain.Goals as goal
 
@@ -31,11 +31,9 @@ returns-in-Refused c =
 
 pub returns-in-Missing : goal.returns-in-Missing
 returns-in-Missing c =
-    let j : LentJobs = lent_jobs c.args.job_count c.args.job_ids.now c.args.job_marks.now c.args.job_specs.now c.args.source_marks.now c.args.source_runs.now c.args.source_views.now in
-    leaves-missing j (drain-is c.in-Missing.is c.find_drain-found.ensures).holds c.set_status.ensures
+    leaves-missing _ (drain-is c.in-Missing.is c.find_drain-found.ensures).holds c.set_status.ensures
 
 pub returns-in-Commit : goal.returns-in-Commit
 returns-in-Commit c =
-    let t : LentTrees = lent_trees c.args.tree_count c.args.trees.now c.args.watermark_marks.now c.args.watermarks.now c.args.l0_ids.now c.args.l0_sizes.now c.args.run_ids.now c.args.run_sizes.now in
     let m = (drain-is c.in-Commit.is c.find_drain-found.ensures).holds in
-    drain-leaves m (c.keep_tree_rows.ensures t m.p m.q refl (record { trees = refl; l0_ids = refl; l0_sizes = refl; run_ids = refl; run_sizes = refl }) m.rows m.runs) (λ s. c.set_watermark.ensures s) c.set_status-in-Commit.ensures
+    drain-leaves m (c.keep_tree_rows.ensures _ m.p m.q refl (record { trees = refl; l0_ids = refl; l0_sizes = refl; run_ids = refl; run_sizes = refl }) m.rows m.runs) (λ s. c.set_watermark.ensures s) c.set_status-in-Commit.ensures

@@ -8,17 +8,12 @@ use Rattle.compactor_finish.proofs.finish.find_finish.Goals as goal
 
 pub returns-then-refusal-ne0 : goal.returns-then-refusal-ne0
 returns-then-refusal-ne0 c =
-    let t : LentTrees = lent_trees c.args.tree_count c.args.trees.now c.args.watermark_marks.now c.args.watermarks.now c.args.l0_ids.now c.args.l0_sizes.now c.args.run_ids.now c.args.run_sizes.now in
-    let j : LentJobs = lent_jobs c.args.job_count c.args.job_ids.now c.args.job_marks.now c.args.job_specs.now c.args.source_marks.now c.args.source_runs.now c.args.source_views.now in
-    let u : Ulid = record { high = c.args.id_high; low = c.args.id_low } in
-    λ size. record { holds = finish-tables t j u (record { id = c.args.output; size = size }) _ c.tables_refusal-refusal.ensures c.if-refusal-ne0.true }
+    λ size. record { holds = finish-tables _ _ _ (record { id = c.args.output; size = size }) _ c.tables_refusal-refusal.ensures c.if-refusal-ne0.true }
 
 pub find_work-work-requires : goal.find_work-work-requires
 find_work-work-requires c =
-    let t : LentTrees = lent_trees c.args.tree_count c.args.trees.now c.args.watermark_marks.now c.args.watermarks.now c.args.l0_ids.now c.args.l0_sizes.now c.args.run_ids.now c.args.run_sizes.now in
-    let j : LentJobs = lent_jobs c.args.job_count c.args.job_ids.now c.args.job_marks.now c.args.job_specs.now c.args.source_marks.now c.args.source_runs.now c.args.source_views.now in
-    let g = tables-ok t j (sym c.tables_refusal-refusal.ensures ∙ c.if-refusal-ne0.false) in
-    work-fit t j g.0 g.1
+    let g = tables-ok _ _ (sym c.tables_refusal-refusal.ensures ∙ c.if-refusal-ne0.false) in
+    work-fit _ _ g.0 g.1
 
 pub place_finish-requires : goal.place_finish-requires
 place_finish-requires c =
@@ -32,29 +27,20 @@ place_finish-requires c =
 
 pub returns-in-Refused : goal.returns-in-Refused
 returns-in-Refused c =
-    let t : LentTrees = lent_trees c.args.tree_count c.args.trees.now c.args.watermark_marks.now c.args.watermarks.now c.args.l0_ids.now c.args.l0_sizes.now c.args.run_ids.now c.args.run_sizes.now in
-    let j : LentJobs = lent_jobs c.args.job_count c.args.job_ids.now c.args.job_marks.now c.args.job_specs.now c.args.source_marks.now c.args.source_runs.now c.args.source_views.now in
-    let u : Ulid = record { high = c.args.id_high; low = c.args.id_low } in
     λ size.
-    let g = tables-ok t j (sym c.tables_refusal-refusal.ensures ∙ c.if-refusal-ne0.false) in
-    record { holds = finish-no-work t j u g.0 g.1 (record { id = c.args.output; size = size }) _ (work-is t j u 0 c.in-Refused.is (c.find_work-work.ensures t j refl refl refl refl refl refl (jobs-good j g.1).rules)) }
+    let g = tables-ok _ _ (sym c.tables_refusal-refusal.ensures ∙ c.if-refusal-ne0.false) in
+    record { holds = finish-no-work _ _ _ g.0 g.1 (record { id = c.args.output; size = size }) _ (work-is _ _ _ 0 c.in-Refused.is (c.find_work-work.ensures _ _ refl refl refl refl refl refl (jobs-good _ g.1).rules)) }
 
 pub returns-in-Missing : goal.returns-in-Missing
 returns-in-Missing c =
-    let t : LentTrees = lent_trees c.args.tree_count c.args.trees.now c.args.watermark_marks.now c.args.watermarks.now c.args.l0_ids.now c.args.l0_sizes.now c.args.run_ids.now c.args.run_sizes.now in
-    let j : LentJobs = lent_jobs c.args.job_count c.args.job_ids.now c.args.job_marks.now c.args.job_specs.now c.args.source_marks.now c.args.source_runs.now c.args.source_views.now in
-    let u : Ulid = record { high = c.args.id_high; low = c.args.id_low } in
     λ size.
-    let g = tables-ok t j (sym c.tables_refusal-refusal.ensures ∙ c.if-refusal-ne0.false) in
-    let f = work-is t j u 0 c.in-Missing.is (c.find_work-work.ensures t j refl refl refl refl refl refl (jobs-good j g.1).rules) in
-    record { holds = finish-missing t j u g.0 g.1 f.0 (record { id = c.args.output; size = size }) f.1 }
+    let g = tables-ok _ _ (sym c.tables_refusal-refusal.ensures ∙ c.if-refusal-ne0.false) in
+    let f = work-is _ _ _ 0 c.in-Missing.is (c.find_work-work.ensures _ _ refl refl refl refl refl refl (jobs-good _ g.1).rules) in
+    record { holds = finish-missing _ _ _ g.0 g.1 f.0 (record { id = c.args.output; size = size }) f.1 }
 
 pub returns-in-Found : goal.returns-in-Found
 returns-in-Found c =
-    let t : LentTrees = lent_trees c.args.tree_count c.args.trees.now c.args.watermark_marks.now c.args.watermarks.now c.args.l0_ids.now c.args.l0_sizes.now c.args.run_ids.now c.args.run_sizes.now in
-    let j : LentJobs = lent_jobs c.args.job_count c.args.job_ids.now c.args.job_marks.now c.args.job_specs.now c.args.source_marks.now c.args.source_runs.now c.args.source_views.now in
-    let u : Ulid = record { high = c.args.id_high; low = c.args.id_low } in
     λ size.
-    let g = tables-ok t j (sym c.tables_refusal-refusal.ensures ∙ c.if-refusal-ne0.false) in
-    let f = work-is t j u 0 c.in-Found.is (c.find_work-work.ensures t j refl refl refl refl refl refl (jobs-good j g.1).rules) in
-    c.place_finish.ensures c.args.l0_sizes.now c.args.run_sizes.now c.args.job_ids.now c.args.job_marks.now u size g.0 g.1 f.0 f.1
+    let g = tables-ok _ _ (sym c.tables_refusal-refusal.ensures ∙ c.if-refusal-ne0.false) in
+    let f = work-is _ _ _ 0 c.in-Found.is (c.find_work-work.ensures _ _ refl refl refl refl refl refl (jobs-good _ g.1).rules) in
+    c.place_finish.ensures c.args.l0_sizes.now c.args.run_sizes.now c.args.job_ids.now c.args.job_marks.now _ size g.0 g.1 f.0 f.1

@@ -20,9 +20,7 @@ pub returns-in-Refused : goal.returns-in-Refused
 unfolding runs_used
 returns-in-Refused c =
     λ l0_sizes run_sizes ids job_marks u size tg jg F G.
-    let t : LentTrees = lent_trees c.args.tree_count c.args.trees.now c.args.watermark_marks.now c.args.watermarks.now c.args.l0_ids.now l0_sizes c.args.run_ids.now run_sizes in
-    let j : LentJobs = lent_jobs c.args.job_count ids job_marks c.args.job_specs.now c.args.source_marks.now c.args.source_runs.now c.args.source_views.now in
-    record { holds = finish-refused t j u tg jg F (record { id = c.args.output; size = size }) G (c.flag_tree.ensures c.args.watermark_marks.now c.args.watermarks.now l0_sizes run_sizes ids job_marks) c.tree_rows-rows.ensures c.column_sum-used.ensures c.place_output-place.ensures _ c.in-Refused.is }
+    record { holds = finish-refused _ _ u tg jg F (record { id = c.args.output; size = size }) G (c.flag_tree.ensures c.args.watermark_marks.now c.args.watermarks.now l0_sizes run_sizes ids job_marks) c.tree_rows-rows.ensures c.column_sum-used.ensures c.place_output-place.ensures _ c.in-Refused.is }
 
 pub returns-in-At : goal.returns-in-At
 unfolding runs_used

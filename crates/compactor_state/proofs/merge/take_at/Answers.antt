@@ -2,7 +2,6 @@
 use native.Mathlib.Omega.{arith}
 use mathlib.Core.Path.{refl, ap}
 use Prim.Native.Nat.{ℕ, ◌+◌}
-use Rattle.rules.specs.Lent.{LentJobs, lent_jobs}
 use Rattle.compactor_state.proofs.Taking.{part_room, part-put}
 use Rattle.compactor_state.proofs.merge.take_at.Goals as goal
 
@@ -14,12 +13,8 @@ slice_bounds-insert_job-end-3 c = omega (arith, c.requires.entries, c.requires.t
 
 pub insert_job-requires : goal.insert_job-requires
 insert_job-requires c =
-    let l : LentJobs = lent_jobs c.args.job_count c.args.job_ids.now c.args.job_marks.now c.args.job_specs.now c.args.source_marks.now c.args.source_runs.now c.args.source_views.now in
-    let r : LentJobs = lent_jobs c.args.remote_count c.args.remote_ids.now c.args.remote_marks.now c.args.remote_specs.now c.args.remote_source_marks.now c.args.remote_source_runs.now c.args.remote_source_views.now in
-    part_room l r c.requires c.if-taken-i-eq0.false (ap (λ (n : ℕ). c.args.at + n) c.wide.ensures) refl refl
+    part_room _ _ c.requires c.if-taken-i-eq0.false (ap (λ (n : ℕ). c.args.at + n) c.wide.ensures) refl refl
 
 pub returns : goal.returns
 returns c =
-    let l : LentJobs = lent_jobs c.args.job_count c.args.job_ids.now c.args.job_marks.now c.args.job_specs.now c.args.source_marks.now c.args.source_runs.now c.args.source_views.now in
-    let r : LentJobs = lent_jobs c.args.remote_count c.args.remote_ids.now c.args.remote_marks.now c.args.remote_specs.now c.args.remote_source_marks.now c.args.remote_source_runs.now c.args.remote_source_views.now in
-    part-put l r c.requires c.if-taken-i-eq0.false (ap (λ (n : ℕ). c.args.at + n) c.wide.ensures) refl refl c.insert_job.ensures
+    part-put _ _ c.requires c.if-taken-i-eq0.false (ap (λ (n : ℕ). c.args.at + n) c.wide.ensures) refl refl c.insert_job.ensures

@@ -1,5 +1,4 @@
 -- `flag_tree` meets its contract: the flags that the two loops leave say of each row whether it stays (`flags-made`).
-use Rattle.rules.specs.Lent.{lent_trees, lent_jobs}
 use Rattle.finishing.proofs.Pasting.{flags-made, sources-fit, rows_fit, runs_fit}
 use Rattle.finishing.proofs.flagging.flag_tree.Goals as goal
 
@@ -10,4 +9,4 @@ pub flag_runs-requires : goal.flag_runs-requires
 flag_runs-requires c = (sources-fit c.requires.1 c.job_rows-entries.ensures, (runs_fit c.requires.0 c.tree_rows-rows.ensures c.requires.2).0, (runs_fit c.requires.0 c.tree_rows-rows.ensures c.requires.2).1)
 
 pub returns : goal.returns
-returns c = λ marks words l0_sizes run_sizes ids job_marks. flags-made (lent_trees c.args.tree_count c.args.trees.now marks words c.args.l0_ids.now l0_sizes c.args.run_ids.now run_sizes) (lent_jobs c.args.job_count ids job_marks c.args.job_specs.now c.args.source_marks.now c.args.source_runs.now c.args.source_views.now) c.args.drain c.args.job c.args.tree c.requires.0 c.requires.2 c.tree_rows-rows.ensures c.job_rows-entries.ensures c.flag_rows.ensures c.flag_runs.ensures
+returns c = λ marks words l0_sizes run_sizes ids job_marks. flags-made _ _ c.args.drain c.args.job c.args.tree c.requires.0 c.requires.2 c.tree_rows-rows.ensures c.job_rows-entries.ensures c.flag_rows.ensures c.flag_runs.ensures

@@ -1,8 +1,6 @@
 -- `insert_job` meets its contract: each mover opens a gap at the job's place and fills it (`inserts`), and there is
--- room.
+-- room. The movers ask nothing of the job's status, kind, prefix and destination: zeros stand for them.
 use native.Mathlib.Omega.{arith}
-use Rattle.rules.specs.Lent.{LentJobs, lent_jobs}
-use Rattle.rules.specs.Jobs.{LentJob}
 use Rattle.job_rows.specs.Slices.{lent_job}
 use Rattle.job_rows.proofs.Inserting.{ask-sum, ask-ids, ask-marks, ask-specs, ask-source-marks, ask-source-runs, ask-source-views, inserts}
 use Rattle.job_rows.proofs.insert.insert_job.Goals as goal
@@ -15,54 +13,38 @@ column_sum-used-requires c = (omega arith, c.requires.capacity.jobs)
 
 pub column_sum-from-requires : goal.column_sum-from-requires
 column_sum-from-requires c =
-    let table : LentJobs = lent_jobs c.args.job_count c.args.job_ids.now c.args.job_marks.now c.args.job_specs.now c.args.source_marks.now c.args.source_runs.now c.args.source_views.now in
-    let job : LentJob = lent_job c.args.id_high c.args.id_low c.args.status c.args.drain c.args.prefix c.args.destination c.args.marks.now c.args.runs.now c.args.views.now in
-    ask-sum table job c.requires _ c.place-at.ensures
+    ask-sum _ (lent_job _ _ 0 0 0 0 _ _ _) c.requires _ c.place-at.ensures
 
 pub open_rows-requires : goal.open_rows-requires
 open_rows-requires c =
-    let table : LentJobs = lent_jobs c.args.job_count c.args.job_ids.now c.args.job_marks.now c.args.job_specs.now c.args.source_marks.now c.args.source_runs.now c.args.source_views.now in
-    let job : LentJob = lent_job c.args.id_high c.args.id_low c.args.status c.args.drain c.args.prefix c.args.destination c.args.marks.now c.args.runs.now c.args.views.now in
-    ask-source-marks table job c.requires _ c.place-at.ensures _ _ c.column_sum-used.ensures c.column_sum-from.ensures
+    ask-source-marks _ (lent_job _ _ 0 0 0 0 _ _ _) c.requires _ c.place-at.ensures _ _ c.column_sum-used.ensures c.column_sum-from.ensures
 
 pub open_rows-requires-2 : goal.open_rows-requires-2
 open_rows-requires-2 c =
-    let table : LentJobs = lent_jobs c.args.job_count c.args.job_ids.now c.args.job_marks.now c.args.job_specs.now c.args.source_marks.now c.args.source_runs.now c.args.source_views.now in
-    let job : LentJob = lent_job c.args.id_high c.args.id_low c.args.status c.args.drain c.args.prefix c.args.destination c.args.marks.now c.args.runs.now c.args.views.now in
-    ask-source-runs table job c.requires _ c.place-at.ensures _ _ c.column_sum-used.ensures c.column_sum-from.ensures
+    ask-source-runs _ (lent_job _ _ 0 0 0 0 _ _ _) c.requires _ c.place-at.ensures _ _ c.column_sum-used.ensures c.column_sum-from.ensures
 
 pub open_rows-requires-3 : goal.open_rows-requires-3
 open_rows-requires-3 c =
-    let table : LentJobs = lent_jobs c.args.job_count c.args.job_ids.now c.args.job_marks.now c.args.job_specs.now c.args.source_marks.now c.args.source_runs.now c.args.source_views.now in
-    let job : LentJob = lent_job c.args.id_high c.args.id_low c.args.status c.args.drain c.args.prefix c.args.destination c.args.marks.now c.args.runs.now c.args.views.now in
-    ask-source-views table job c.requires _ c.place-at.ensures _ _ c.column_sum-used.ensures c.column_sum-from.ensures
+    ask-source-views _ (lent_job _ _ 0 0 0 0 _ _ _) c.requires _ c.place-at.ensures _ _ c.column_sum-used.ensures c.column_sum-from.ensures
 
 pub open_rows-requires-4 : goal.open_rows-requires-4
 open_rows-requires-4 c =
-    let table : LentJobs = lent_jobs c.args.job_count c.args.job_ids.now c.args.job_marks.now c.args.job_specs.now c.args.source_marks.now c.args.source_runs.now c.args.source_views.now in
-    let job : LentJob = lent_job c.args.id_high c.args.id_low c.args.status c.args.drain c.args.prefix c.args.destination c.args.marks.now c.args.runs.now c.args.views.now in
-    ask-ids table job c.requires _ c.place-at.ensures
+    ask-ids _ (lent_job _ _ 0 0 0 0 _ _ _) c.requires _ c.place-at.ensures
 
 pub open_rows-requires-5 : goal.open_rows-requires-5
 open_rows-requires-5 c =
-    let table : LentJobs = lent_jobs c.args.job_count c.args.job_ids.now c.args.job_marks.now c.args.job_specs.now c.args.source_marks.now c.args.source_runs.now c.args.source_views.now in
-    let job : LentJob = lent_job c.args.id_high c.args.id_low c.args.status c.args.drain c.args.prefix c.args.destination c.args.marks.now c.args.runs.now c.args.views.now in
-    ask-marks table job c.requires _ c.place-at.ensures
+    ask-marks _ (lent_job _ _ 0 0 0 0 _ _ _) c.requires _ c.place-at.ensures
 
 pub open_rows-requires-6 : goal.open_rows-requires-6
 open_rows-requires-6 c =
-    let table : LentJobs = lent_jobs c.args.job_count c.args.job_ids.now c.args.job_marks.now c.args.job_specs.now c.args.source_marks.now c.args.source_runs.now c.args.source_views.now in
-    let job : LentJob = lent_job c.args.id_high c.args.id_low c.args.status c.args.drain c.args.prefix c.args.destination c.args.marks.now c.args.runs.now c.args.views.now in
-    ask-specs table job c.requires _ c.place-at.ensures
+    ask-specs _ (lent_job _ _ 0 0 0 0 _ _ _) c.requires _ c.place-at.ensures
 
 pub overflow_add-result : goal.overflow_add-result
 overflow_add-result c = omega (arith, c.requires.job_fits)
 
 pub returns : goal.returns
 returns c =
-    let table : LentJobs = lent_jobs c.args.job_count c.args.job_ids.now c.args.job_marks.now c.args.job_specs.now c.args.source_marks.now c.args.source_runs.now c.args.source_views.now in
-    let job : LentJob = lent_job c.args.id_high c.args.id_low c.args.status c.args.drain c.args.prefix c.args.destination c.args.marks.now c.args.runs.now c.args.views.now in
-    inserts table job c.requires _ c.place-at.ensures _ _ c.column_sum-used.ensures c.column_sum-from.ensures
+    inserts _ _ c.requires _ c.place-at.ensures _ _ c.column_sum-used.ensures c.column_sum-from.ensures
     c.open_rows.ensures
     c.open_rows-2.ensures
     c.open_rows-3.ensures

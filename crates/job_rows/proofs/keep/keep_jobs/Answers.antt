@@ -31,7 +31,7 @@ count_marked-requires c = c.requires.1
 pub returns : goal.returns
 returns c =
     keeps-jobs
-    (lent_jobs c.args.job_count c.args.job_ids.now c.args.job_marks.now c.args.job_specs.now c.args.source_marks.now c.args.source_runs.now c.args.source_views.now)
+    _
     c.args.staying.now
     c.requires
     _

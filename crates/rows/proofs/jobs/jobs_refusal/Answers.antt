@@ -1,22 +1,18 @@
--- `jobs_refusal` meets its contract: 1, then 2, as `jobs_refusal` has them; the rules on jobs are read off the slices by `flat-jobs`.
+-- `jobs_refusal` meets its contract: each return is one case of its two refusals (OneTable.antt); the rules on jobs are read off
+-- the slices by `flat-jobs`.
 use mathlib.Core.Path.{refl, sym, ◌∙◌}
 use Rattle.rules.specs.Lent.{LentJobs, lent_jobs, sources_used}
-use Rattle.rules.specs.Bounds.{jobs_misshapen, jobs_refusal}
 use Rattle.rules.proofs.Bounds.{jobs-within, jobs-lent}
 use Rattle.rows.proofs.Shapes.{flat-jobs}
+use Rattle.rows.proofs.OneTable.{jobs-told}
 use Rattle.rows.proofs.jobs.jobs_refusal.Goals as goal
 
 pub returns-then-jobs_outside : goal.returns-then-jobs_outside
-unfolding jobs_refusal
-returns-then-jobs_outside c =
-    let lent : LentJobs = lent_jobs c.args.count c.args.job_ids.now c.args.job_marks.now c.args.job_specs.now c.args.source_marks.now c.args.source_runs.now c.args.source_views.now in
-    rw (sym (c.jobs_outside.ensures lent refl refl) ∙ c.if-jobs_outside.true)
+returns-then-jobs_outside c = jobs-told _ (sym (c.jobs_outside.ensures _ refl refl) ∙ c.if-jobs_outside.true) refl refl
 
 pub returns-then-not-jobs_at_capacity : goal.returns-then-not-jobs_at_capacity
-unfolding jobs_refusal jobs_misshapen
 returns-then-not-jobs_at_capacity c =
-    let lent : LentJobs = lent_jobs c.args.count c.args.job_ids.now c.args.job_marks.now c.args.job_specs.now c.args.source_marks.now c.args.source_runs.now c.args.source_views.now in
-    rw (sym (c.jobs_outside.ensures lent refl refl) ∙ c.if-jobs_outside.false, sym (c.jobs_at_capacity.ensures c.args.count) ∙ c.if-not-jobs_at_capacity.true)
+    jobs-told _ (sym (c.jobs_outside.ensures _ refl refl) ∙ c.if-jobs_outside.false) (sym (c.jobs_at_capacity.ensures _) ∙ c.if-not-jobs_at_capacity.true) refl
 
 pub good_jobs-requires : goal.good_jobs-requires
 unfolding sources_used
@@ -27,13 +23,9 @@ good_jobs-requires c =
     (w.jobs, f.job_ids, f.job_marks, f.source_marks, w.sources)
 
 pub returns-then-good_jobs : goal.returns-then-good_jobs
-unfolding jobs_refusal jobs_misshapen
 returns-then-good_jobs c =
-    let lent : LentJobs = lent_jobs c.args.count c.args.job_ids.now c.args.job_marks.now c.args.job_specs.now c.args.source_marks.now c.args.source_runs.now c.args.source_views.now in
-    rw (sym (c.jobs_outside.ensures lent refl refl) ∙ c.if-jobs_outside.false, sym (c.jobs_at_capacity.ensures c.args.count) ∙ c.if-not-jobs_at_capacity.false, flat-jobs lent ∙ sym c.good_jobs.ensures ∙ c.if-good_jobs.true)
+    jobs-told _ (sym (c.jobs_outside.ensures _ refl refl) ∙ c.if-jobs_outside.false) (sym (c.jobs_at_capacity.ensures _) ∙ c.if-not-jobs_at_capacity.false) (flat-jobs _ ∙ sym c.good_jobs.ensures ∙ c.if-good_jobs.true)
 
 pub returns : goal.returns
-unfolding jobs_refusal jobs_misshapen
 returns c =
-    let lent : LentJobs = lent_jobs c.args.count c.args.job_ids.now c.args.job_marks.now c.args.job_specs.now c.args.source_marks.now c.args.source_runs.now c.args.source_views.now in
-    rw (sym (c.jobs_outside.ensures lent refl refl) ∙ c.if-jobs_outside.false, sym (c.jobs_at_capacity.ensures c.args.count) ∙ c.if-not-jobs_at_capacity.false, flat-jobs lent ∙ sym c.good_jobs.ensures ∙ c.if-good_jobs.false)
+    jobs-told _ (sym (c.jobs_outside.ensures _ refl refl) ∙ c.if-jobs_outside.false) (sym (c.jobs_at_capacity.ensures _) ∙ c.if-not-jobs_at_capacity.false) (flat-jobs _ ∙ sym c.good_jobs.ensures ∙ c.if-good_jobs.false)

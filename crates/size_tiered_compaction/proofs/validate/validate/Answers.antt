@@ -10,21 +10,15 @@ use Rattle.size_tiered_compaction.proofs.validate.validate.Goals as goal
 
 pub returns-then-refusal-ne0 : goal.returns-then-refusal-ne0
 returns-then-refusal-ne0 c =
-    let t : LentTrees = lent_trees c.args.tree_count c.args.trees.now c.args.watermark_marks.now c.args.watermarks.now c.args.l0_ids.now c.args.l0_sizes.now c.args.run_ids.now c.args.run_sizes.now in
-    let s : LentSpec = lent_spec c.args.drain c.args.prefix c.args.destination c.args.marks.now c.args.runs.now c.args.views.now in
-    trees-refused t s _ c.trees_refusal-refusal.ensures c.if-refusal-ne0.true
+    trees-refused _ _ _ c.trees_refusal-refusal.ensures c.if-refusal-ne0.true
 
 pub returns-then-drain-gt1 : goal.returns-then-drain-gt1
 returns-then-drain-gt1 c =
-    let t : LentTrees = lent_trees c.args.tree_count c.args.trees.now c.args.watermark_marks.now c.args.watermarks.now c.args.l0_ids.now c.args.l0_sizes.now c.args.run_ids.now c.args.run_sizes.now in
-    let s : LentSpec = lent_spec c.args.drain c.args.prefix c.args.destination c.args.marks.now c.args.runs.now c.args.views.now in
-    spec-refused t s (trees-good t (sym c.trees_refusal-refusal.ensures ∙ c.if-refusal-ne0.false)) (bad_kind s c.if-drain-gt1.true)
+    spec-refused _ _ (trees-good _ (sym c.trees_refusal-refusal.ensures ∙ c.if-refusal-ne0.false)) (bad_kind _ c.if-drain-gt1.true)
 
 pub returns-then-not-sources_good : goal.returns-then-not-sources_good
 returns-then-not-sources_good c =
-    let t : LentTrees = lent_trees c.args.tree_count c.args.trees.now c.args.watermark_marks.now c.args.watermarks.now c.args.l0_ids.now c.args.l0_sizes.now c.args.run_ids.now c.args.run_sizes.now in
-    let s : LentSpec = lent_spec c.args.drain c.args.prefix c.args.destination c.args.marks.now c.args.runs.now c.args.views.now in
-    spec-refused t s (trees-good t (sym c.trees_refusal-refusal.ensures ∙ c.if-refusal-ne0.false)) (own-sources s _ c.if-drain-gt1.false c.sources_good.ensures ∙ ap not c.if-not-sources_good.true)
+    spec-refused _ _ (trees-good _ (sym c.trees_refusal-refusal.ensures ∙ c.if-refusal-ne0.false)) (own-sources _ _ c.if-drain-gt1.false c.sources_good.ensures ∙ ap not c.if-not-sources_good.true)
 
 pub tiered_refusal-refusal-requires : goal.tiered_refusal-refusal-requires
 unfolding l0_used runs_used
@@ -39,12 +33,8 @@ tiered_refusal-refusal-requires c =
 
 pub returns-then-refusal-ne0-2 : goal.returns-then-refusal-ne0-2
 returns-then-refusal-ne0-2 c =
-    let t : LentTrees = lent_trees c.args.tree_count c.args.trees.now c.args.watermark_marks.now c.args.watermarks.now c.args.l0_ids.now c.args.l0_sizes.now c.args.run_ids.now c.args.run_sizes.now in
-    let s : LentSpec = lent_spec c.args.drain c.args.prefix c.args.destination c.args.marks.now c.args.runs.now c.args.views.now in
-    by-refused _ c.if-refusal-ne0-2.true ∙ tiered-answer t s (trees-good t (sym c.trees_refusal-refusal.ensures ∙ c.if-refusal-ne0.false)) (own-sources s _ c.if-drain-gt1.false c.sources_good.ensures ∙ ap not c.if-not-sources_good.false) (λ e. omega arith) _ (c.tiered_refusal-refusal.ensures t refl refl refl refl)
+    by-refused _ c.if-refusal-ne0-2.true ∙ tiered-answer _ _ (trees-good _ (sym c.trees_refusal-refusal.ensures ∙ c.if-refusal-ne0.false)) (own-sources _ _ c.if-drain-gt1.false c.sources_good.ensures ∙ ap not c.if-not-sources_good.false) (λ e. omega arith) _ (c.tiered_refusal-refusal.ensures _ refl refl refl refl)
 
 pub returns : goal.returns
 returns c =
-    let t : LentTrees = lent_trees c.args.tree_count c.args.trees.now c.args.watermark_marks.now c.args.watermarks.now c.args.l0_ids.now c.args.l0_sizes.now c.args.run_ids.now c.args.run_sizes.now in
-    let s : LentSpec = lent_spec c.args.drain c.args.prefix c.args.destination c.args.marks.now c.args.runs.now c.args.views.now in
-    by-accepted _ c.if-refusal-ne0-2.false ∙ tiered-answer t s (trees-good t (sym c.trees_refusal-refusal.ensures ∙ c.if-refusal-ne0.false)) (own-sources s _ c.if-drain-gt1.false c.sources_good.ensures ∙ ap not c.if-not-sources_good.false) (λ e. omega arith) _ (c.tiered_refusal-refusal.ensures t refl refl refl refl)
+    by-accepted _ c.if-refusal-ne0-2.false ∙ tiered-answer _ _ (trees-good _ (sym c.trees_refusal-refusal.ensures ∙ c.if-refusal-ne0.false)) (own-sources _ _ c.if-drain-gt1.false c.sources_good.ensures ∙ ap not c.if-not-sources_good.false) (λ e. omega arith) _ (c.tiered_refusal-refusal.ensures _ refl refl refl refl)
