@@ -1,18 +1,22 @@
 -- What finish and drain answer, by what is found: refused, the segment missing, or a tree that changes.
 use Prim.Native.Nat.{ℕ, zero, suc, ◌+◌, ◌*◌, ◌≤◌, ◌<◌}
 use mathlib.Core.Path.{◌≡◌, refl, sym, ap, ap₂, subst, ◌∙◌}
-use mathlib.Core.List.{List, append-nil}
+use mathlib.Core.List.{List, ◌∷◌, append-nil}
 use mathlib.Core.Bool.{Bool, true, false, cond, ◌||◌, not}
 use mathlib.Core.Option.{Option, some, none}
 use native.Mathlib.Omega.{arith}
 use lib.Dec.{leb}
 use lib.ListN.{length, get_or, take, drop, set, length-append, take-append-drop}
 use borrow.Author.Tests.{eq-eqb, ne_eqb, leb-false}
-use Rattle.rules.specs.declared.FinishAnswer.TheVariants.{Committed, SegmentMissing}
+use Rattle.rules.specs.Answers.FinishAnswer.{Committed, SegmentMissing}
 use Rattle.rules.specs.Lists.{keep, total, ◌given◌else◌}
-use Rattle.rules.specs.Tables.{Ulid, same_ulid, L0Row, Run, Tree, Job, Watermark, SourceId, id_of, among, view_id, run_id}
+use Rattle.rules.specs.declared.tables.Ulid.{Ulid}
+use Rattle.rules.specs.declared.tables.Run.{Run}
+use Rattle.rules.specs.declared.tables.Watermark.{Watermark}
+use Rattle.rules.specs.declared.tables.SourceId.{SourceId}
+use Rattle.rules.specs.Tables.{same_ulid, L0Row, Tree, Job, id_of, among, view_id, run_id}
 use Rattle.rules.specs.Lent.{LentTrees, LentJobs, rows_from, l0_at, watermark_at, l0_count, run_count, source_count, source_at, tree_at, trees_of, jobs_of, runs_used, l0_used, sources_used, lay_trees}
-use Rattle.rules.specs.Bounds.{max_l0, max_runs, trees_outside, jobs_outside, trees_misshapen, jobs_misshapen, trees_refusal, jobs_refusal}
+use Rattle.rules.specs.Bounds.{max_runs, good_jobs, trees_outside, jobs_outside, trees_misshapen, jobs_misshapen, trees_refusal, jobs_refusal}
 use Rattle.rules.specs.Validation.{tree_with, is_empty}
 use Rattle.rules.specs.Jobs.{job_with}
 use Rattle.rules.specs.Finish.{named, runs_left, output_place, finish_mark, drain_mark, finish_tree, drain_tree, in_tree, misplaced, too_many_runs, finish_tree_refusal, finish_job_refusal, finish_refusal, drain_job_refusal, drain_refusal}
@@ -26,16 +30,20 @@ use Rattle.rules.proofs.Finishing.{keep_append, output-put}
 use Rattle.rows.specs.Movers.{marked}
 use Rattle.rows.specs.Read.{Stands, Entries}
 use Rattle.tree_rows.specs.Change.{changed_at, keep_rows, put_run, put_watermark}
-use Rattle.tree_rows.specs.Slices.{runs_before}
 use Rattle.tree_rows.proofs.Changes.{in-tree, changed-same}
+use Rattle.std.specs.Prelude.{Result}
+use Rattle.std.specs.declared.option.Option.TheVariants.{None, Some}
+use Rattle.std.specs.declared.result.Result.TheVariants.{Ok, Err}
+use Rattle.rules.specs.declared.answers.Refusal.{Refusal}
+use Rattle.rules.specs.declared.answers.Refusal.TheVariants.{RunsOutOfOrder, TableFull}
+use Rattle.rules.specs.Answers.{number_of}
+use Rattle.rules.proofs.Refused.{numbered}
 use Rattle.finishing.specs.declared.work.Work.{Work}
-use Rattle.finishing.specs.declared.output.Place.{Place}
-use Rattle.finishing.specs.declared.output.Place.TheVariants.{Refused, At}
 use Rattle.rows.specs.Refusals.{tables_refusal}
-use Rattle.finishing.specs.Finding.{NoWork, JobFound, TreeFound, WorkFound, job_in, names_in}
+use Rattle.finishing.specs.Finding.{NoWork, JobFound, TreeFound, TreeOrNone, WorkFound, job_in, names_in}
 use Rattle.finishing.specs.Placing.{clash_in, old_place, place_in}
 use Rattle.finishing.specs.Flagging.{TreeRoom, JobRoom, row_stays, run_stays, Flags}
-use Rattle.compactor_finish.specs.Finishes.{refused_with, SegmentGone, Commits, Drains}
+use Rattle.compactor_finish.specs.Finishes.{refused_with, Refuses, Finds, WorkCase, SegmentGone, Commits, Drains}
 use Rattle.compactor_finish.proofs.Statuses.{status-laid}
 use Rattle.compactor_finish.proofs.Staying.{prefixes-once, gone_runs, misplaced-is, too-many-is, stay-count, place-count}
 use Rattle.finishing.proofs.Pasting.{names_of}
@@ -157,7 +165,7 @@ module _ (t : LentTrees) (j : LentJobs) (u : Ulid) (tg : trees_refusal t ≡ 0) 
     }
 
     -- the tree is found, and its flags are made
-    module _ {tree : ℕ} (G : TreeFound t (job_in j job).prefix tree) {l0_kept runs_kept : List ℕ} (flags : Flags t j 0 job tree l0_kept runs_kept) {l c r m : ℕ} (at : Stands t.trees t.count tree l c r m) {used : ℕ} (all : used ≡ runs_used t) {place : Place} (is : place ≡ place_in t.run_ids used r m runs_kept out.id) where
+    module _ {tree : ℕ} (G : TreeFound t (job_in j job).prefix tree) {l0_kept runs_kept : List ℕ} (flags : Flags t j 0 job tree l0_kept runs_kept) {l c r m : ℕ} (at : Stands t.trees t.count tree l c r m) {used : ℕ} (all : used ≡ runs_used t) {place : Result ℕ Refusal} (is : place ≡ place_in t.run_ids used r m runs_kept out.id) where
       abbrev x : Tree
       x = tree_at t tree (total (rows_from (l0_count t) 0 tree)) (total (rows_from (run_count t) 0 tree))
 
@@ -185,24 +193,24 @@ module _ (t : LentTrees) (j : LentJobs) (u : Ulid) (tg : trees_refusal t ≡ 0) 
       abbrev spot : ℕ
       spot = length (keep marked (take (old_place t.run_ids r m out.id) (drop r runs_kept)))
 
-      placed : place ≡ cond clash (Refused 13) (cond full (Refused 14) (At (r + spot)))
+      placed : place ≡ cond clash (Err RunsOutOfOrder) (cond full (Err TableFull) (Ok (r + spot)))
       unfolding place_in
       placed = is ∙ rw all
 
-      pub finish-refused : (n : ℕ) → place ≡ Refused n → finish_call t j u out ≡ refused_with n t j
+      pub finish-refused : (n : Refusal) → place ≡ Err n → finish_call t j u out ≡ refused_with (number_of n) t j
       unfolding finish_call
       finish-refused n e = ap (λ (v : ℕ). finish_by v (λ x. finish_tree x out) u t j) number ∙ go clash full (sym placed ∙ e)
         where
-          go : (a b : Bool) → cond a (Refused 13) (cond b (Refused 14) (At (r + spot))) ≡ Refused n → finish_by (13 given a else 14 given b else 0) (λ x. finish_tree x out) u t j ≡ refused_with n t j
-          go true b h = let k : 13 ≡ n = cc in ap (λ (v : ℕ). refused_with v t j) k
-          go false true h = let k : 14 ≡ n = cc in ap (λ (v : ℕ). refused_with v t j) k
+          go : (a b : Bool) → cond a (Err RunsOutOfOrder) (cond b (Err TableFull) (Ok (r + spot))) ≡ Err n → finish_by (13 given a else 14 given b else 0) (λ x. finish_tree x out) u t j ≡ refused_with (number_of n) t j
+          go true b h = let k : RunsOutOfOrder ≡ n = cc in ap (λ (v : Refusal). refused_with (number_of v) t j) k
+          go false true h = let k : TableFull ≡ n = cc in ap (λ (v : Refusal). refused_with (number_of v) t j) k
           go false false h = let z : ◌≡◌ {A = ℕ} 0 1 = cc in absurd (omega arith)
 
-      module _ (a : ℕ) (e : place ≡ At a) where
+      module _ (a : ℕ) (e : place ≡ Ok a) where
         open-place : (clash ≡ false) × (full ≡ false) × (a ≡ r + spot)
         open-place = go clash full (sym placed ∙ e)
           where
-            go : (b c : Bool) → cond b (Refused 13) (cond c (Refused 14) (At (r + spot))) ≡ At a → (b ≡ false) × (c ≡ false) × (a ≡ r + spot)
+            go : (b c : Bool) → cond b (Err RunsOutOfOrder) (cond c (Err TableFull) (Ok (r + spot))) ≡ Ok a → (b ≡ false) × (c ≡ false) × (a ≡ r + spot)
             go true c h = let z : ◌≡◌ {A = ℕ} 0 1 = cc in absurd (omega arith)
             go false true h = let z : ◌≡◌ {A = ℕ} 0 1 = cc in absurd (omega arith)
             go false false h = let k : a ≡ r + spot = cc in (refl, refl, k)
@@ -286,56 +294,101 @@ module _ (t : LentTrees) (j : LentJobs) (u : Ulid) (tg : trees_refusal t ≡ 0) 
               (ap (drain_tree (job_in j job)) here ∙ tree-eq refl (sym mark) refl (ap (λ (xs : List SourceId). runs_left xs y.runs) (sym (append-nil (named (job_in j job))))) ∙ ap (λ (z : Tree). put_watermark w (keep_rows (row_stays j job) (run_stays j 1 job) z)) (sym here)));
         }
 
--- the watermark of a finish, by the source entries as they lie
-pub mark-of : (j : LentJobs) (job s n : ℕ) → Entries j.job_specs j.count job s n → (get_or j.job_specs (3 * job + 2) 0 ≡ 0 → ⊥) → (x : Tree) (w : Watermark) → ((m : ℕ) → w ≡ finish_mark (names_in j.source_marks j.source_runs j.source_views s (suc m)) x) → w ≡ finish_mark (named (job_in j job)) x
-mark-of j job s zero e h x w says = absurd (h (sym e.count))
-mark-of j job s (suc n) e h x w says = says n ∙ ap (λ (xs : List SourceId). finish_mark xs x) (sym (names_of j job e))
+-- the watermark of a finish, by the first source entry
+pub mark-of : (j : LentJobs) (job s n : ℕ) → Entries j.job_specs j.count job s n → (source_count j job ≡ 0 → ⊥) → (x : Tree) (w : Watermark) {first : SourceId} → first ≡ id_of (source_at j.source_marks j.source_runs j.source_views s)
+    → ((others : List SourceId) → w ≡ finish_mark (first ∷ others) x) → w ≡ finish_mark (named (job_in j job)) x
+unfolding rows_from
+mark-of j job s zero e h x w f says = absurd (h (sym e.count))
+mark-of j job s (suc n) e h x w f says =
+    let others = names_in j.source_marks j.source_runs j.source_views (s + 1) n in
+    says others ∙ ap (λ (y : SourceId). finish_mark (y ∷ others) x) f ∙ ap (λ (xs : List SourceId). finish_mark xs x) (sym (names_of j job e))
 
 -- the L0 rows of the tree, where they were found
 pub own-rows : (t : LentTrees) (tree : ℕ) {l c r m : ℕ} → Stands t.trees t.count tree l c r m → rows_from (l0_at t) (total (rows_from (l0_count t) 0 tree)) (l0_count t tree) ≡ rows_from (l0_at t) l c
 own-rows t tree at = ap₂ (λ (a b : ℕ). rows_from (l0_at t) a b) (sym at.first_row) (sym at.rows)
 
--- ---- what the calls of place_finish ask for
+-- ---- what place_finish asks of the place
 
-module _ {count : ℕ} {trees l0_ids run_ids : List ℕ} {tree : ℕ} (room : TreeRoom count trees l0_ids run_ids tree) {l c r m : ℕ} (at : Stands trees count tree l c r m) where
-  -- lent so many marks and words of watermarks
-  module _ {marks words : ℕ} (a : marks ≡ 64) (b : words ≡ 128) where
-    pub finish-mark-fit : {jobs job : ℕ} {specs source_marks runs views : List ℕ} → JobRoom jobs specs source_marks runs views job → {s n : ℕ} → Entries specs jobs job s n → (get_or specs (3 * job + 2) 0 ≡ 0 → ⊥)
-        → (2 * tree + 1 < marks) × (4 * tree + 3 < words) × (4 * (l + c) ≤ length l0_ids) × (s < length source_marks) × (2 * s + 1 < length views)
-    finish-mark-fit jr e h =
-        (omega (arith, room.tree, room.few), omega (arith, room.tree, room.few), omega (arith, at.rows_within, room.l0, room.l0_ids), omega (arith, e.within, jr.sources, jr.marks, e.count), omega (arith, e.within, jr.sources, jr.views, e.count))
+pub output-fit : {t : LentTrees} {tree : ℕ} → TreeRoom t tree → {l c r m : ℕ} → Stands t.trees t.count tree l c r m → {used flags : ℕ} → used ≡ runs_used t → flags ≡ max_runs
+    → (used ≤ 512) × (used ≤ length t.run_ids) × (used ≤ flags) × (r + m ≤ used)
+unfolding runs_used
+output-fit room at e h = (omega (arith, room.runs), omega (arith, room.runs, room.run_ids), omega (arith, room.runs), omega (arith, at.runs_within))
 
-    pub drain-mark-fit : {flags : ℕ} → flags ≡ max_l0 → (2 * tree + 1 < marks) × (4 * tree + 3 < words) × (4 * (l + c) ≤ length l0_ids) × (l + c ≤ flags)
-    drain-mark-fit h =
-        (omega (arith, room.tree, room.few), omega (arith, room.tree, room.few), omega (arith, at.rows_within, room.l0, room.l0_ids), omega (arith, at.rows_within, room.l0))
+-- ---- what is found
 
-  pub output-fit : {used flags : ℕ} → used ≡ runs_before trees count → flags ≡ max_runs → (used ≤ 512) × (used ≤ length run_ids) × (used ≤ flags) × (r + m ≤ used)
-  output-fit e h = (omega (arith, room.runs), omega (arith, room.runs, room.run_ids), omega (arith, room.runs), omega (arith, at.runs_within))
+pub work-fit : (t : LentTrees) (j : LentJobs) → tables_refusal t j ≡ 0 → (3 * t.count ≤ length t.trees) × (2 * j.count ≤ length j.job_ids) × (2 * j.count ≤ length j.job_marks) × (3 * j.count ≤ length j.job_specs)
+work-fit t j ok =
+    let g = tables-ok t j ok in
+    let T = trees-good t g.0 in
+    let J = jobs-good j g.1 in
+    (omega (arith, T.within.trees, T.lent.trees), omega (arith, J.within.jobs, J.lent.job_ids), omega (arith, J.within.jobs, J.lent.job_marks), omega (arith, J.within.jobs, J.lent.job_specs))
 
--- ---- what the calls of find_finish and find_drain ask for
+pub tree-room : (t : LentTrees) → trees_refusal t ≡ 0 → {tree : ℕ} → tree < t.count → TreeRoom t tree
+unfolding l0_used runs_used
+tree-room t g h =
+    let T = trees-good t g in
+    record { few = T.within.trees; tree = h; trees = T.lent.trees; l0_ids = T.lent.l0_ids; run_ids = T.lent.run_ids; l0 = T.within.l0; runs = T.within.runs }
 
-module _ (t : LentTrees) (j : LentJobs) (tg : trees_refusal t ≡ 0) (jg : jobs_refusal j ≡ 0) where
-  pub work-fit : (3 * t.count ≤ length t.trees) × (2 * j.count ≤ length j.job_ids) × (2 * j.count ≤ length j.job_marks) × (3 * j.count ≤ length j.job_specs)
-  work-fit =
-      let T = trees-good t tg in
-      let J = jobs-good j jg in
-      (omega (arith, T.within.trees, T.lent.trees), omega (arith, J.within.jobs, J.lent.job_ids), omega (arith, J.within.jobs, J.lent.job_marks), omega (arith, J.within.jobs, J.lent.job_specs))
+pub job-room : (j : LentJobs) → jobs_refusal j ≡ 0 → {job : ℕ} → job < j.count → JobRoom j job
+unfolding sources_used
+job-room j g h =
+    let J = jobs-good j g in
+    record { few = J.within.jobs; job = h; job_specs = J.lent.job_specs; marks = J.lent.source_marks; runs = J.lent.source_runs; views = J.lent.source_views; sources = J.within.sources }
 
-  pub tree-room : {tree : ℕ} → tree < t.count → TreeRoom t.count t.trees t.l0_ids t.run_ids tree
-  unfolding l0_used runs_used
-  tree-room h =
-      let T = trees-good t tg in
-      record { few = T.within.trees; tree = h; trees = T.lent.trees; l0_ids = T.lent.l0_ids; run_ids = T.lent.run_ids; l0 = T.within.l0; runs = T.within.runs }
+-- 1 or 2 of the tables
+pub tables-refuse : (t : LentTrees) (j : LentJobs) (u : Ulid) (kind : ℕ) (r : Refusal) → number_of r ≡ tables_refusal t j → Refuses t j u kind (number_of r)
+tables-refuse t j u kind r e = record { finish = λ k out. finish-tables t j u out (number_of r) e (numbered r); drain = λ k. drain-tables t j u (number_of r) e (numbered r) }
 
-  pub job-room : {job : ℕ} → job < j.count → JobRoom j.count j.job_specs j.source_marks j.source_runs j.source_views job
-  unfolding sources_used
-  job-room h =
-      let J = jobs-good j jg in
-      record { few = J.within.jobs; job = h; job_specs = J.lent.job_specs; marks = J.lent.source_marks; runs = J.lent.source_runs; views = J.lent.source_views; sources = J.within.sources }
+-- what find_work answers
+pub work-case : (t : LentTrees) (j : LentJobs) (u : Ulid) (kind : ℕ) → tables_refusal t j ≡ 0 → (r : Result Work Refusal) → (good_jobs (jobs_of j) ≡ true → WorkFound t j u kind r) → WorkCase t j u kind r
+work-case t j u kind ok (Err r) h =
+    let g = tables-ok t j ok in
+    let w = h (jobs-good j g.1).rules in
+    record {
+      finish = λ k out. finish-no-work t j u g.0 g.1 out (number_of r) (subst (λ (d : ℕ). NoWork t j u d (number_of r)) k w);
+      drain = λ k. drain-no-work t j u g.0 g.1 (number_of r) (subst (λ (d : ℕ). NoWork t j u d (number_of r)) k w);
+    }
+work-case t j u kind ok (Ok w) h =
+    let g = tables-ok t j ok in
+    let f = h (jobs-good j g.1).rules in
+    record { trees = g.0; jobs = g.1; job = f.0; tree = f.1 }
 
--- the case of what find_work answers
-pub work-is : (t : LentTrees) (j : LentJobs) (u : Ulid) (kind : ℕ) {v w : Work} → v ≡ w → WorkFound t j u kind v → WorkFound t j u kind w
-work-is t j u kind e h = subst (λ (x : Work). WorkFound t j u kind x) e h
+-- what is said of the tables as they are handed out is said of the lent ones
+pub of-lent : (P : LentTrees → LentJobs → Type 0) {s t : LentTrees} {i j : LentJobs} → s ≡ t → i ≡ j → P s i → P t j
+of-lent P {s} {t} {i} e f h = subst (P t) f (subst (λ (y : LentTrees). P y i) e h)
+
+pub found : {s t : LentTrees} {i j : LentJobs} {u : Ulid} {kind : ℕ} {w : Work} → s ≡ t → i ≡ j → Finds s i u kind w → Finds t j u kind w
+found {u = u} {kind = kind} {w = w} e f h = of-lent (λ s i. Finds s i u kind w) e f h
+
+module _ {t : LentTrees} {j : LentJobs} {u : Ulid} {kind : ℕ} {w : Work} (f : Finds t j u kind w) where
+  pub no-tree : w.tree ≡ None → tree_with (job_in j w.job).prefix (trees_of t) ≡ none
+  no-tree e = subst (TreeOrNone t (job_in j w.job).prefix) e f.tree
+
+  module _ {tree : ℕ} (e : w.tree ≡ Some tree) where
+    pub the-tree : TreeFound t (job_in j w.job).prefix tree
+    the-tree = subst (TreeOrNone t (job_in j w.job).prefix) e f.tree
+
+    -- what place_finish and mark_drain ask for
+    pub both-fit : {s : LentTrees} {i : LentJobs} → s ≡ t → i ≡ j → (TreeRoom s tree) × (JobRoom i w.job) × (length s.watermark_marks ≡ 64) × (length s.watermarks ≡ 128)
+    both-fit {s} {i} a b =
+        let l = (trees-good t f.trees).lent in
+        (subst (λ (y : LentTrees). TreeRoom y tree) (sym a) (tree-room t f.trees the-tree.place), subst (λ (y : LentJobs). JobRoom y w.job) (sym b) (job-room j f.jobs f.job.place), ap (λ (y : LentTrees). length y.watermark_marks) a ∙ l.watermark_marks, ap (λ (y : LentTrees). length y.watermarks) a ∙ l.watermarks)
+
+-- a job to be finished has sources
+pub sourced : {t : LentTrees} {i j : LentJobs} {u : Ulid} {w : Work} → Finds t j u 0 w → i ≡ j → source_count i w.job ≡ 0 → ⊥
+sourced {w = w} f b e = f.job.sources refl (ap (λ (y : LentJobs). source_count y w.job) (sym b) ∙ e)
+
+-- what place_finish and mark_drain find
+module _ {s t : LentTrees} {i j : LentJobs} (a : s ≡ t) (b : i ≡ j) {u : Ulid} {w : Work} {l0_kept runs_kept : List ℕ} where
+  pub finish-found : Finds t j u 0 w → {tree : ℕ} → w.tree ≡ Some tree → {out : Run} {at : ℕ} {mark : Watermark}
+      → ((v : Ulid) → trees_refusal s ≡ 0 → jobs_refusal i ≡ 0 → JobFound i v 0 w.job → TreeFound s (job_in i w.job).prefix tree → Commits (finish_call s i v out) s i out w.job tree at mark l0_kept runs_kept) → Commits (finish_call t j u out) t j out w.job tree at mark l0_kept runs_kept
+  finish-found f {tree} e {out} {at} {mark} h =
+      of-lent (λ s i. (v : Ulid) → trees_refusal s ≡ 0 → jobs_refusal i ≡ 0 → JobFound i v 0 w.job → TreeFound s (job_in i w.job).prefix tree → Commits (finish_call s i v out) s i out w.job tree at mark l0_kept runs_kept) a b h u f.trees f.jobs f.job (the-tree f e)
+
+  pub drain-found : Finds t j u 1 w → {tree : ℕ} → w.tree ≡ Some tree → {mark : Watermark}
+      → ((v : Ulid) → trees_refusal s ≡ 0 → jobs_refusal i ≡ 0 → JobFound i v 1 w.job → TreeFound s (job_in i w.job).prefix tree → Drains (drain_call s i v) s i w.job tree mark l0_kept runs_kept) → Drains (drain_call t j u) t j w.job tree mark l0_kept runs_kept
+  drain-found f {tree} e {mark} h =
+      of-lent (λ s i. (v : Ulid) → trees_refusal s ≡ 0 → jobs_refusal i ≡ 0 → JobFound i v 1 w.job → TreeFound s (job_in i w.job).prefix tree → Drains (drain_call s i v) s i w.job tree mark l0_kept runs_kept) a b h u f.trees f.jobs f.job (the-tree f e)
 
 -- the watermark of a drain, by the flags of the tree's L0 rows
 pub drained-mark : (t : LentTrees) (j : LentJobs) (job tree : ℕ) {l0_kept runs_kept : List ℕ} → Flags t j 1 job tree l0_kept runs_kept → {l c r m : ℕ} → Stands t.trees t.count tree l c r m → (w : Watermark)

@@ -8,8 +8,9 @@ use native.Mathlib.Omega.{arith}
 use lib.ListN.{length, get_or, take, drop, set, length-set, take-append-drop}
 use lib.Seq.{set-append_left, drop-cons}
 use Rattle.rules.specs.Lists.{all, linked, concat_map}
-use Rattle.rules.specs.Tables.{Ulid, same_ulid, ulid_below, Job, with_status}
-use Rattle.rules.specs.Lent.{LentJobs, rows_from, jobs_from, jobs_of, source_count, job_mark_words, laid, lay_jobs}
+use Rattle.rules.specs.declared.tables.Ulid.{Ulid}
+use Rattle.rules.specs.Tables.{same_ulid, ulid_below, Job, with_status}
+use Rattle.rules.specs.Lent.{LentJobs, rows_from, jobs_from, jobs_of, source_count, job_mark_words, laid, lay_jobs, laid_with}
 use Rattle.rules.specs.Bounds.{good_job, good_jobs}
 use Rattle.rules.specs.Finish.{set_status}
 use Rattle.rules.specs.Calls.{marks_at}
@@ -85,7 +86,7 @@ module _ (j : LentJobs) where
 
   -- "Status becomes 4." or 5: of job i, which has the id
   pub status-laid : (u : Ulid) (n i : ℕ) (d : Job) → good_jobs (jobs_of j) ≡ true → 2 * j.count ≤ length j.job_marks → i < j.count → same_ulid (get_or (jobs_of j) i d).id u ≡ true → marks_at n u j ≡ set j.job_marks (2 * i) n
-  unfolding good_jobs lay_jobs laid
+  unfolding good_jobs lay_jobs laid_with
   status-laid u n i d g room h e =
       let listed : i < length (jobs_of j) = omega (arith, length-jobs_of j) in
       let w = concat_map job_mark_words (jobs_of j) in
@@ -94,7 +95,7 @@ module _ (j : LentJobs) where
       let long : length w ≡ 2 * j.count = length-words job_mark_words 2 (λ x. refl) (jobs_of j) ∙ ap (λ (m : ℕ). 2 * m) (length-jobs_of j) in
       let size : length (set w (2 * i) n) ≡ 2 * j.count = length-set w (2 * i) n ∙ long in
       ap (λ (r : List ℕ). laid (2 * j.count) r j.job_marks) changed
-      ∙ grown (2 * j.count) (set w (2 * i) n) j.job_marks (omega arith)
+      ∙ grown 0 (2 * j.count) (set w (2 * i) n) j.job_marks (omega arith)
       ∙ ap (λ (m : ℕ). set w (2 * i) n ++ drop m j.job_marks) size
       ∙ sym (set-append_left w (drop (2 * j.count) j.job_marks) (2 * i) n (omega arith))
       ∙ ap (λ (r : List ℕ). set r (2 * i) n) (ap (λ (r : List ℕ). r ++ drop (2 * j.count) j.job_marks) (stands room) ∙ take-append-drop (2 * j.count) j.job_marks)

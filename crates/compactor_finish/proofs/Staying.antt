@@ -10,7 +10,10 @@ use lib.ListN.{length, get_or, take, drop, length-map, length-append, get_or-map
 use lib.Seq.{get_or-take, take-take, length-take-le}
 use borrow.Author.Tests.{eq-eqb, ne_eqb, eqb-true, eqb-false, ltb-true, ltb-false, lt-ltb, le-ltb, leb-true, leb-false, not-true}
 use Rattle.rules.specs.Lists.{any, all, keep, leading, distinct, concat_map}
-use Rattle.rules.specs.Tables.{same_ulid, L0Row, Run, Tree, Job, SourceId, sorted_run, among, run_id}
+use Rattle.rules.specs.declared.tables.Run.{Run}
+use Rattle.rules.specs.declared.tables.SourceId.{SourceId}
+use Rattle.rules.specs.declared.tables.SourceId.TheVariants.{SortedRun}
+use Rattle.rules.specs.Tables.{same_ulid, L0Row, Tree, Job, among, run_id}
 use Rattle.rules.specs.Lent.{LentTrees, rows_from, run_at, trees_of, runs_used, l0_of, runs_of}
 use Rattle.rules.specs.Bounds.{max_runs, first_is_root, falling_ids, good_marks, good_trees}
 use Rattle.rules.specs.Finish.{named, runs_left, output_place, finish_tree, misplaced, too_many_runs}
@@ -205,7 +208,7 @@ above-is a n = go (leb a n) refl
 
 -- what goes with a job that finishes
 abbrev pub gone_runs : Job → List SourceId
-gone_runs j = named j ++ (sorted_run j.destination ∷ [])
+gone_runs j = named j ++ (SortedRun j.destination ∷ [])
 
 abbrev pub stays_for : Job → Run → Bool
 stays_for j r = not (among (run_id r) (gone_runs j))

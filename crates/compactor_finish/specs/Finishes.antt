@@ -1,23 +1,44 @@
 -- What finish and drain find, as the change needs it, and what a call leaves.
-use Rattle.std.specs.Prelude.{ℕ, ◌+◌, ◌*◌, ◌≤◌, ◌<◌, ◌≡◌, List, Bool, length, get_or, set}
-use Rattle.rules.specs.declared.FinishAnswer.{FinishAnswer}
-use Rattle.rules.specs.declared.FinishAnswer.TheVariants.{Committed, SegmentMissing, Refused as refused}
+use Rattle.std.specs.Prelude.{ℕ, ◌+◌, ◌*◌, ◌≤◌, ◌<◌, ◌≡◌, List, Bool, length, get_or, set, Result}
+use Rattle.std.specs.declared.result.Result.TheVariants.{Ok, Err}
+use Rattle.rules.specs.declared.answers.Refusal.{Refusal}
+use Rattle.rules.specs.declared.answers.Finished.{Finished}
+use Rattle.rules.specs.Answers.{number_of, finish_answer}
+use Rattle.rules.specs.Answers.FinishAnswer.{Committed, SegmentMissing, Refused as refused}
 use Rattle.rules.specs.Lists.{keep}
-use Rattle.rules.specs.Tables.{Ulid, L0Row, Run, Tree, Watermark}
+use Rattle.rules.specs.declared.tables.Ulid.{Ulid}
+use Rattle.rules.specs.declared.tables.Run.{Run}
+use Rattle.rules.specs.declared.tables.Watermark.{Watermark}
+use Rattle.rules.specs.Tables.{L0Row, Tree}
 use Rattle.rules.specs.Lent.{LentTrees, LentJobs, trees_of, lay_trees, runs_of}
-use Rattle.rules.specs.Bounds.{max_l0, max_runs, trees_refusal}
+use Rattle.rules.specs.Bounds.{max_l0, max_runs, trees_refusal, jobs_refusal}
 use Rattle.rules.specs.Calls.{FinishResult, finish_call, drain_call}
 use Rattle.tree_rows.specs.Change.{changed_at, keep_rows, put_run, put_watermark, L0Flags, RunFlags}
 use Rattle.tree_rows.specs.Slices.{runs_before}
-use Rattle.compactor_finish.specs.declared.finish.Outcome.{Outcome}
-use Rattle.compactor_finish.specs.declared.finish.Outcome.TheVariants.{Refused, Missing, Commit}
-use Rattle.compactor_finish.specs.declared.drain.Outcome.{Outcome as Drained}
-use Rattle.compactor_finish.specs.declared.drain.Outcome.TheVariants.{Refused as NotDrained, Missing as NoSegment, Commit as Moved}
-use Rattle.finishing.specs.Placing.{mark_of}
+use Rattle.finishing.specs.declared.work.Work.{Work}
+use Rattle.finishing.specs.Finding.{job_in, JobFound, TreeOrNone}
+use Rattle.compactor_finish.specs.declared.finish.Change.{Change}
+use Rattle.compactor_finish.specs.Ending.{with_marks}
 
 -- "Each returns its number alone; every lent table and output keeps its bytes."
 abbrev pub refused_with : ℕ → LentTrees → LentJobs → FinishResult
 refused_with n t j = record { answer = refused n; trees = t; job_marks = j.job_marks }
+
+-- 1, 2, 11, 12 or 7: the call is refused so, whatever the output
+pub record Refuses (t : LentTrees) (j : LentJobs) (u : Ulid) (kind n : ℕ) : Type 0 where
+  pub finish : kind ≡ 0 → (out : Run) → finish_call t j u out ≡ refused_with n t j
+  pub drain : kind ≡ 1 → drain_call t j u ≡ refused_with n t j
+
+-- both tables are good, and the job is found, and its tree where the segment is there
+pub record Finds (t : LentTrees) (j : LentJobs) (u : Ulid) (kind : ℕ) (w : Work) : Type 0 where
+  pub trees : trees_refusal t ≡ 0
+  pub jobs : jobs_refusal j ≡ 0
+  pub job : JobFound j u kind w.job
+  pub tree : TreeOrNone t (job_in j w.job).prefix w.tree
+
+abbrev pub WorkCase : LentTrees → LentJobs → Ulid → ℕ → Result Work Refusal → Type 0
+WorkCase t j u kind (Err r) = Refuses t j u kind (number_of r)
+WorkCase t j u kind (Ok w) = Finds t j u kind w
 
 -- "A missing segment is no refusal: status becomes 5 and nothing else changes."
 pub record SegmentGone (x : FinishResult) (t : LentTrees) (j : LentJobs) (job : ℕ) : Type 0 where
@@ -42,13 +63,9 @@ pub record Commits (x : FinishResult) (t : LentTrees) (j : LentJobs) (out : Run)
   pub low : (d : Tree) → k ≤ length (keep q (get_or (trees_of t) tree d).runs)
   pub is : x ≡ record { answer = Committed; trees = lay_trees t (changed_at tree (λ y. put_watermark w (put_run k out (keep_rows p q y))) (trees_of t)); job_marks = set j.job_marks (2 * job) 4 }
 
-abbrev pub FinishCase : LentTrees → LentJobs → Ulid → Run → List ℕ → List ℕ → Outcome → Type 0
-FinishCase t j u out l0_kept runs_kept (Refused n) = finish_call t j u out ≡ refused_with n t j
-FinishCase t j u out l0_kept runs_kept (Missing job) = SegmentGone (finish_call t j u out) t j job
-FinishCase t j u out l0_kept runs_kept (Commit job tree at mark) = Commits (finish_call t j u out) t j out job tree at (mark_of mark) l0_kept runs_kept
-
-pub record FinishFound (t : LentTrees) (j : LentJobs) (u : Ulid) (out : Run) (l0_kept runs_kept : List ℕ) (r : Outcome) : Type 0 where
-  pub holds : FinishCase t j u out l0_kept runs_kept r
+abbrev pub FinishCase : LentTrees → LentJobs → Ulid → Run → ℕ → ℕ → List ℕ → List ℕ → Result Change Refusal → Type 0
+FinishCase t j u out job tree l0_kept runs_kept (Err r) = finish_call t j u out ≡ refused_with (number_of r) t j
+FinishCase t j u out job tree l0_kept runs_kept (Ok c) = Commits (finish_call t j u out) t j out job tree c.at c.watermark l0_kept runs_kept
 
 -- the same of a drain, which puts no run in
 pub record Drains (x : FinishResult) (t : LentTrees) (j : LentJobs) (job tree : ℕ) (w : Watermark) (l0_kept runs_kept : List ℕ) : Type 0 where
@@ -63,22 +80,8 @@ pub record Drains (x : FinishResult) (t : LentTrees) (j : LentJobs) (job tree : 
   pub runs_long : length runs_kept ≡ max_runs
   pub is : x ≡ record { answer = Committed; trees = lay_trees t (changed_at tree (λ y. put_watermark w (keep_rows p q y)) (trees_of t)); job_marks = set j.job_marks (2 * job) 4 }
 
-abbrev pub DrainCase : LentTrees → LentJobs → Ulid → List ℕ → List ℕ → Drained → Type 0
-DrainCase t j u l0_kept runs_kept (NotDrained n) = drain_call t j u ≡ refused_with n t j
-DrainCase t j u l0_kept runs_kept (NoSegment job) = SegmentGone (drain_call t j u) t j job
-DrainCase t j u l0_kept runs_kept (Moved job tree mark) = Drains (drain_call t j u) t j job tree (mark_of mark) l0_kept runs_kept
-
-pub record DrainFound (t : LentTrees) (j : LentJobs) (u : Ulid) (l0_kept runs_kept : List ℕ) (r : Drained) : Type 0 where
-  pub holds : DrainCase t j u l0_kept runs_kept r
-
--- what a call answers and leaves, slice by slice
-pub record Leaves (x : FinishResult) (answer' : FinishAnswer) (trees' watermark_marks' watermarks' l0_ids' l0_sizes' run_ids' run_sizes' job_marks' : List ℕ) : Type 0 where
-  pub answer : answer' ≡ x.answer
-  pub trees : trees' ≡ x.trees.trees
-  pub watermark_marks : watermark_marks' ≡ x.trees.watermark_marks
-  pub watermarks : watermarks' ≡ x.trees.watermarks
-  pub l0_ids : l0_ids' ≡ x.trees.l0_ids
-  pub l0_sizes : l0_sizes' ≡ x.trees.l0_sizes
-  pub run_ids : run_ids' ≡ x.trees.run_ids
-  pub run_sizes : run_sizes' ≡ x.trees.run_sizes
-  pub job_marks : job_marks' ≡ x.job_marks
+-- what a call answers and leaves
+pub record Leaves (x : FinishResult) (j : LentJobs) (answer' : Result Finished Refusal) (trees' : LentTrees) (jobs' : LentJobs) : Type 0 where
+  pub answer : finish_answer answer' ≡ x.answer
+  pub trees : trees' ≡ x.trees
+  pub jobs : jobs' ≡ with_marks x.job_marks j

@@ -2,4 +2,5 @@
 #![tactic(auto)]
 
 pub mod drain;
+pub mod ending;
 pub mod finish;

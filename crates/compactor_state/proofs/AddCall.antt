@@ -7,9 +7,12 @@ use native.Mathlib.Omega.{arith}
 use borrow.Author.Tests.{not-true, not-false, ltb-false, lt-ltb, eqb-true, le-leb, lt-leb}
 use lib.Dec.{ltb, eqb}
 use lib.ListN.{length, get_or}
-use Rattle.rules.specs.declared.JobsAnswer.TheVariants.{Jobs, Refused}
+use Rattle.std.specs.declared.result.Result.TheVariants.{Ok, Err}
+use Rattle.rules.specs.declared.answers.Refusal.{Refusal}
+use Rattle.rules.specs.Answers.{number_of}
 use Rattle.rules.specs.Lists.{any, all, keep, total, ◌given◌else◌}
-use Rattle.rules.specs.Tables.{Ulid, same_ulid, Job}
+use Rattle.rules.specs.declared.tables.Ulid.{Ulid}
+use Rattle.rules.specs.Tables.{same_ulid, Job}
 use Rattle.rules.specs.Lent.{LentJobs, rows_from, ulid_at, source_at, jobs_of, sources_of, lay_jobs}
 use Rattle.rules.specs.Bounds.{max_jobs, max_sources, jobs_outside, jobs_misshapen, jobs_refusal, lengths_agree, good_sources, good_job, good_jobs}
 use Rattle.rules.specs.Validation.{lent_sources}
@@ -24,7 +27,7 @@ use Rattle.rules.proofs.Inserting.{rising, has_id, keep_all, none_kept, keep-ins
 use Rattle.rows.specs.Movers.{marked}
 use Rattle.rows.proofs.Lift.{marks-say}
 use Rattle.merging.specs.Merge.{Flags}
-use Rattle.merging.proofs.Flagged.{Flagged, jobs-flagged, entries-flagged}
+use Rattle.merging.proofs.Flagged.{jobs-flagged, entries-flagged}
 use Rattle.job_rows.specs.Slices.{AtCapacity, HasRoom, Keeps, Inserts}
 use Rattle.job_rows.proofs.Fitting.{good-capacity}
 use Rattle.job_rows.proofs.Again.{lay-again, lay-fits, sources-laid}
@@ -118,19 +121,15 @@ module _ (t : LentJobs) (x : LentJob) where
       go false false true f = sym f
       go false false false f = absurd (h f)
 
-  pub add-refused : {r : ℕ} → r ≡ refused_first t x → (r ≡ 0 → ⊥) → Answers (add_call t x) (Refused r) t.job_ids t.job_marks t.job_specs t.source_marks t.source_runs t.source_views
-  unfolding add_call
-  add-refused {r} e h = rw (first-refusal e h) (call-refused r (inserted (job_of x) (jobs_of t)) t h)
-
   -- what is known where nothing of that is refused
   record First : Type 0 where
     table : JobsGood t
     own : job_misshapen x ≡ false
     left : add_refusal t x ≡ (14 given too_many (inserted (job_of x) (jobs_of t)) else 0)
 
-  first-passed : {r : ℕ} → r ≡ refused_first t x → r ≡ 0 → First
+  first-passed : 0 ≡ refused_first t x → First
   unfolding refused_first add_refusal jobs_refusal
-  first-passed {r} e z = go (jobs_outside t) (jobs_misshapen t) (job_misshapen x) (clashes (job_of x) (jobs_of t)) refl refl refl refl (sym e ∙ z)
+  first-passed e = go (jobs_outside t) (jobs_misshapen t) (job_misshapen x) (clashes (job_of x) (jobs_of t)) refl refl refl refl (sym e)
     where
       go : (a b c d : Bool) → jobs_outside t ≡ a → jobs_misshapen t ≡ b → job_misshapen x ≡ c → clashes (job_of x) (jobs_of t) ≡ d → (1 given a else 2 given b || c else 10 given d else 0) ≡ 0 → First
       go true b c d ea eb ec ed f = absurd (omega arith)
@@ -144,20 +143,16 @@ module _ (t : LentJobs) (x : LentJob) where
 abbrev pub others : Ulid → Job → Bool
 others u k = not (same_ulid k.id u)
 
-pub others-flags : {ids flags : List ℕ} {n i : ℕ} (u : Ulid) (j : LentJobs) → Flagged (λ k b. b ≡ not (same_ulid (ulid_at ids (2 * k)) u)) n i flags → n ≤ i → j.count ≡ n → j.job_ids ≡ ids → Flags (others u) (jobs_of j) flags
-others-flags u j f h c e = record {
-  room = f.room;
-  says = λ d k m.
-      let here : k < j.count = omega (arith, length-jobs_of j) in
-      f.says k (omega arith) ∙ ap (λ (v : Ulid). not (same_ulid v u)) (sym (ap (λ (x : Job). x.id) (job_is j k d here) ∙ ap (λ (s : List ℕ). ulid_at s (2 * k)) e));
-}
+-- what is read of job i's id
+pub other-row : (j : LentJobs) (i : ℕ) (u : Ulid) {v : Ulid} {b : Bool} → i < j.count → v ≡ ulid_at j.job_ids (2 * i) → b ≡ not (same_ulid v u) → (d : Job) → b ≡ others u (get_or (jobs_of j) i d)
+other-row j i u h e b d = b ∙ ap (λ (w : Ulid). not (same_ulid w u)) (e ∙ sym (ap (λ (x : Job). x.id) (job_is j i d h)))
 
-module _ (t : LentJobs) (x : LentJob) {r : ℕ} (e : r ≡ refused_first t x) (z : r ≡ 0) where
+module _ (t : LentJobs) (x : LentJob) (passed : 0 ≡ refused_first t x) where
   first : First t x
-  first = first-passed t x e z
+  first = first-passed t x passed
 
-  pub add-capacity : AtCapacity t
-  add-capacity = good-capacity first.table
+  pub first-capacity : AtCapacity t
+  first-capacity = good-capacity first.table
 
   rises : rising (jobs_of t) ≡ true
   unfolding good_jobs
@@ -193,68 +188,80 @@ module _ (t : LentJobs) (x : LentJob) {r : ℕ} (e : r ≡ refused_first t x) (z
   unfolding job_of
   entries-after = entries-inserted (job_of x) rest absent ∙ ap (λ (n : ℕ). n + length (sources_of rest)) entries
 
-  -- the flags of the jobs of other ids are set
+  jobs-after : length (inserted (job_of x) (jobs_of t)) ≡ length rest + 1
+  jobs-after = ap length replaced ∙ omega (arith, length-after)
+
+  more_after : length (sources_of (inserted (job_of x) (jobs_of t))) ≡ length (sources_of rest) + length x.marks
+  more_after = ap (λ (js : List Job). length (sources_of js)) replaced ∙ omega (arith, entries-after)
+
+  -- where the flags of the jobs of other ids are set: refusal 14 by the sums over them
+  pub add-full : {staying : List ℕ} {full : ℕ} → Flags (others x.id) (jobs_of t) staying → full ≡ refused_full staying t.job_specs t.count (length x.marks) → full ≡ add_refusal t x
+  unfolding too_many
+  add-full flags f = f ∙ rw (jobs-flagged t flags, entries-flagged t flags) (sym (first.left ∙ rw (jobs-after, more_after)))
+
+-- the call is not refused, and the flags of the jobs of other ids are set
+module _ (t : LentJobs) (x : LentJob) (none : 0 ≡ add_refusal t x) where
+  passed : 0 ≡ refused_first t x
+  unfolding refused_first add_refusal
+  passed = go (jobs_outside t) (jobs_misshapen t || job_misshapen x) (clashes (job_of x) (jobs_of t)) none
+    where
+      go : (a b c : Bool) → 0 ≡ (1 given a else 2 given b else 10 given c else 14 given too_many (inserted (job_of x) (jobs_of t)) else 0) → 0 ≡ (1 given a else 2 given b else 10 given c else 0)
+      go true b c f = f
+      go false true c f = f
+      go false false true f = f
+      go false false false f = refl
+
+  pub add-capacity : AtCapacity t
+  add-capacity = first-capacity t x passed
+
   module _ {staying : List ℕ} (flags : Flags (others x.id) (jobs_of t) staying) where
     pub add-flags : t.count ≤ length staying
-    add-flags = omega (arith, flags.room, first.table.within.jobs)
+    add-flags = omega (arith, flags.room, add-capacity.jobs)
 
-    -- refusal 14 by the sums over them
-    module _ {full : ℕ} (f : full ≡ refused_full staying t.job_specs t.count (length x.marks)) where
-      full_is : full ≡ (14 given ltb max_jobs (length rest + 1) || ltb max_sources (length (sources_of rest) + length x.marks) else 0)
-      full_is = f ∙ rw (jobs-flagged t flags, entries-flagged t flags)
+    fits : (length (rest t x passed) + 1 ≤ max_jobs) × (length (sources_of (rest t x passed)) + length x.marks ≤ max_sources)
+    unfolding too_many
+    fits = go (ltb max_jobs (length (rest t x passed) + 1)) (ltb max_sources (length (sources_of (rest t x passed)) + length x.marks)) refl refl (none ∙ (first t x passed).left ∙ rw (jobs-after t x passed, more_after t x passed))
+      where
+        go : (a b : Bool) → ltb max_jobs (length (rest t x passed) + 1) ≡ a → ltb max_sources (length (sources_of (rest t x passed)) + length x.marks) ≡ b → 0 ≡ (14 given a || b else 0) → (length (rest t x passed) + 1 ≤ max_jobs) × (length (sources_of (rest t x passed)) + length x.marks ≤ max_sources)
+        go true b p q h = absurd (omega arith)
+        go false true p q h = absurd (omega arith)
+        go false false p q h = (ltb-false max_jobs (length (rest t x passed) + 1) p, ltb-false max_sources (length (sources_of (rest t x passed)) + length x.marks) q)
 
-      refusal_is : add_refusal t x ≡ full
-      unfolding too_many
-      refusal_is =
-          let jobs : length (inserted (job_of x) (jobs_of t)) ≡ length rest + 1 = ap length replaced ∙ omega (arith, length-after) in
-          let more : length (sources_of (inserted (job_of x) (jobs_of t))) ≡ length (sources_of rest) + length x.marks = ap (λ (js : List Job). length (sources_of js)) replaced ∙ omega (arith, entries-after) in
-          first.left ∙ rw (jobs, more) (sym full_is)
+    module _ {k : LentJobs} (kept : Keeps t staying k) where
+      dropped : k ≡ lay_jobs t (rest t x passed)
+      dropped = kept.kept (others x.id) (marks-say (others x.id) (job_of x) t.count (jobs_of t) staying (sym (length-jobs_of t)) add-flags (λ i h. flags.says (job_of x) i (omega (arith, length-jobs_of t))))
 
-      pub add-full : (full ≡ 0 → ⊥) → Answers (add_call t x) (Refused full) t.job_ids t.job_marks t.job_specs t.source_marks t.source_runs t.source_views
+      lengths : (length x.runs ≡ length x.marks) × (length x.views ≡ 2 * length x.marks)
+      unfolding job_misshapen
+      lengths =
+          let whole : lengths_agree x.marks x.runs x.views && good_job (job_of x) ≡ true = not-false _ (first t x passed).own in
+          let agree : lengths_agree x.marks x.runs x.views ≡ true = and_left (lengths_agree x.marks x.runs x.views) (good_job (job_of x)) whole in
+          (eqb-true _ _ (and_left (eqb (length x.runs) (length x.marks)) (eqb (length x.views) (2 * length x.marks)) agree), eqb-true _ _ (and_right (eqb (length x.runs) (length x.marks)) (eqb (length x.views) (2 * length x.marks)) agree))
+
+      pub add-room : HasRoom k x
+      unfolding lay_jobs
+      add-room = rw dropped
+          record {
+            capacity = lay-fits t (rest t x passed) add-capacity (omega (arith, fits)) (omega (arith, fits));
+            job_fits = fits.0;
+            entries_fit = omega (arith, fits, sources-laid t (rest t x passed));
+            runs_agree = lengths.0;
+            views_agree = lengths.1;
+          }
+
+      pub add_done : {A : Type 0} {a : A} {k' : LentJobs} → Inserts k x k' → Answers {A = A} (add_call t x) (Ok a) k'
       unfolding add_call
-      add-full h = rw refusal_is (call-refused full (inserted (job_of x) (jobs_of t)) t h)
+      add_done {k' = k'} put =
+          let back : jobs_of k ≡ rest t x passed = ap jobs_of dropped ∙ jobs-back t (rest t x passed) in
+          let there : any (λ y. same_ulid y.id x.id) (jobs_of k) ≡ false = ap (has_id x.id) back ∙ absent t x passed in
+          let placed : k' ≡ lay_jobs k (inserted (job_of x) (jobs_of k)) = put.placed there in
+          let laid : k' ≡ lay_jobs t (inserted (job_of x) (jobs_of t)) =
+          placed
+          ∙ ap₂ (λ (j : LentJobs) (js : List Job). lay_jobs j (inserted (job_of x) js)) dropped back
+          ∙ lay-again t (rest t x passed) (inserted (job_of x) (rest t x passed)) (omega (arith, length-after t x passed)) (omega (arith, entries-after t x passed))
+          ∙ ap (lay_jobs t) (sym (replaced t x passed)) in
+          call-done (inserted (job_of x) (jobs_of t)) t k' (sym none) laid
 
-      -- there is room
-      module _ (w : full ≡ 0) where
-        fits : (length rest + 1 ≤ max_jobs) × (length (sources_of rest) + length x.marks ≤ max_sources)
-        fits = go (ltb max_jobs (length rest + 1)) (ltb max_sources (length (sources_of rest) + length x.marks)) refl refl (sym full_is ∙ w)
-          where
-            go : (a b : Bool) → ltb max_jobs (length rest + 1) ≡ a → ltb max_sources (length (sources_of rest) + length x.marks) ≡ b → (14 given a || b else 0) ≡ 0 → (length rest + 1 ≤ max_jobs) × (length (sources_of rest) + length x.marks ≤ max_sources)
-            go true b p q h = absurd (omega arith)
-            go false true p q h = absurd (omega arith)
-            go false false p q h = (ltb-false max_jobs (length rest + 1) p, ltb-false max_sources (length (sources_of rest) + length x.marks) q)
-
-        module _ {k : LentJobs} (kept : Keeps t staying k) where
-          dropped : k ≡ lay_jobs t rest
-          dropped = kept.kept (others x.id) (marks-say (others x.id) (job_of x) t.count (jobs_of t) staying (sym (length-jobs_of t)) add-flags (λ i h. flags.says (job_of x) i (omega (arith, length-jobs_of t))))
-
-          lengths : (length x.runs ≡ length x.marks) × (length x.views ≡ 2 * length x.marks)
-          unfolding job_misshapen
-          lengths =
-              let whole : lengths_agree x.marks x.runs x.views && good_job (job_of x) ≡ true = not-false _ first.own in
-              let agree : lengths_agree x.marks x.runs x.views ≡ true = and_left (lengths_agree x.marks x.runs x.views) (good_job (job_of x)) whole in
-              (eqb-true _ _ (and_left (eqb (length x.runs) (length x.marks)) (eqb (length x.views) (2 * length x.marks)) agree), eqb-true _ _ (and_right (eqb (length x.runs) (length x.marks)) (eqb (length x.views) (2 * length x.marks)) agree))
-
-          pub add-room : HasRoom k x.marks x.runs x.views
-          unfolding lay_jobs
-          add-room = rw dropped
-              record {
-                capacity = lay-fits t rest add-capacity (omega (arith, fits)) (omega (arith, fits));
-                job_fits = fits.0;
-                entries_fit = omega (arith, fits, sources-laid t rest);
-                runs_agree = lengths.0;
-                views_agree = lengths.1;
-              }
-
-          pub add_done : {k' : LentJobs} → Inserts k x k' → Answers (add_call t x) (Jobs k'.count) k'.job_ids k'.job_marks k'.job_specs k'.source_marks k'.source_runs k'.source_views
-          unfolding add_call
-          add_done {k'} put =
-              let back : jobs_of k ≡ rest = ap jobs_of dropped ∙ jobs-back t rest in
-              let there : any (λ y. same_ulid y.id x.id) (jobs_of k) ≡ false = ap (has_id x.id) back ∙ absent in
-              let placed : k' ≡ lay_jobs k (inserted (job_of x) (jobs_of k)) = put.placed there in
-              let laid : k' ≡ lay_jobs t (inserted (job_of x) (jobs_of t)) =
-              placed
-              ∙ ap₂ (λ (j : LentJobs) (js : List Job). lay_jobs j (inserted (job_of x) js)) dropped back
-              ∙ lay-again t rest (inserted (job_of x) rest) (omega (arith, length-after)) (omega (arith, entries-after))
-              ∙ ap (lay_jobs t) (sym replaced) in
-              call-done (add_refusal t x) (inserted (job_of x) (jobs_of t)) t k' (refusal_is ∙ w) laid
+pub add-refused : {A : Type 0} (t : LentJobs) (x : LentJob) (r : Refusal) → number_of r ≡ add_refusal t x → Answers {A = A} (add_call t x) (Err r) t
+unfolding add_call
+add-refused t x r e = call-refused r (inserted (job_of x) (jobs_of t)) t e

@@ -27,8 +27,3 @@ module _ (j : LentJobs) (x : Job) where
       go : (b : Bool) → eqb x.drain 1 ≡ b → cond b (any (λ k. active k && is_drain k && eqb k.prefix x.prefix) (jobs_from j 0 0 j.count)) (any (λ k. active k && not (is_drain k) && eqb k.destination x.destination) (jobs_from j 0 0 j.count)) ≡ any (clash_at j.job_marks j.job_specs x.drain x.prefix x.destination) (rows_from (λ k. k) 0 j.count)
       go true d = drain-clash 0 0 j.count d
       go false d = tiered-clash 0 0 j.count d
-
--- a finished job clashes with neither kind
-pub neither : (b : Bool) → false ≡ cond b false false
-neither true = refl
-neither false = refl

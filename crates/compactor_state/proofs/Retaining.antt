@@ -10,9 +10,12 @@ use lib.Dec.{leb}
 use lib.ListN.{length, get_or, take, drop, set, length-set}
 use lib.Seq.{drop-cons, drop-set-lt, get_or-set_same}
 use Rattle.rules.specs.Lists.{any, all, keep}
-use Rattle.rules.specs.Tables.{Ulid, ulid_below, Job, active, finished}
+use Rattle.rules.specs.declared.tables.Ulid.{Ulid}
+use Rattle.rules.specs.Tables.{ulid_below, Job, active, finished}
 use Rattle.rules.specs.Lent.{LentJobs, rows_from, source_count, jobs_from, jobs_of, lay_jobs}
-use Rattle.rules.specs.declared.JobsAnswer.TheVariants.{Jobs, Refused}
+use Rattle.std.specs.declared.result.Result.TheVariants.{Ok, Err}
+use Rattle.rules.specs.declared.answers.Refusal.{Refusal}
+use Rattle.rules.specs.Answers.{number_of}
 use Rattle.rules.specs.Bounds.{good_job, good_jobs, jobs_refusal}
 use Rattle.rules.specs.Jobs.{retained}
 use Rattle.rules.specs.Calls.{retain_call}
@@ -25,7 +28,7 @@ use Rattle.rules.proofs.Inserting.{rising, all_above, rising-rest, rising-first}
 use Rattle.rows.specs.Movers.{marked}
 use Rattle.merging.proofs.Flagged.{marked-bool}
 use Rattle.job_rows.specs.Slices.{Keeps}
-use Rattle.compactor_state.specs.Retention.{finished_status, kept_statuses}
+use Rattle.compactor_state.specs.Retention.{finished_status, kept_statuses, Retains}
 use Rattle.compactor_state.specs.Answers.{Answers}
 use Rattle.compactor_state.proofs.Answered.{call-refused, call-done}
 
@@ -69,10 +72,10 @@ module _ {marks : List ℕ} {n : ℕ} {flags : List ℕ} {seen : Bool} {i : ℕ}
         says = rw (rows, flag, more, marked-bool b, m.says, ← m.later, e);
       }
 
-  pub retaining-ends : i ≤ 0 → (length flags ≡ 64) × (map marked (take n flags) ≡ kept_statuses (rows_from (status_in marks) 0 n))
-  retaining-ends h =
+  pub retaining-ends : (j : LentJobs) → j.count ≡ n → j.job_marks ≡ marks → i ≤ 0 → Retains j flags
+  retaining-ends j c s h =
       let e : i ≡ 0 = omega arith in
-      (m.room, rw (e, sub-zero) at m.says)
+      record { room = m.room; says = rw (c, s) (rw (e, sub-zero) at m.says) }
 
 -- ---- the jobs
 
@@ -152,27 +155,26 @@ keep-retained q (k ∷ ks) h =
     let later : map q ks ≡ kept_statuses (map (λ (x : Job). x.status) ks) = cc in
     rw (here, any-status ks, keep-retained q ks later)
 
-module _ (t : LentJobs) {r : ℕ} (e : r ≡ jobs_refusal t) where
-  pub retain-refused : (r ≡ 0 → ⊥) → Answers (retain_call t) (Refused r) t.job_ids t.job_marks t.job_specs t.source_marks t.source_runs t.source_views
+module _ (t : LentJobs) where
+  pub retain-refused : {A : Type 0} (r : Refusal) → number_of r ≡ jobs_refusal t → Answers {A = A} (retain_call t) (Err r) t
   unfolding retain_call
-  retain-refused h = rw (← e) (call-refused r (retained (jobs_of t)) t h)
+  retain-refused r e = call-refused r (retained (jobs_of t)) t e
 
   -- the table is not refused
-  module _ (z : r ≡ 0) where
+  module _ (none : 0 ≡ jobs_refusal t) where
     pub retain-good : JobsGood t
-    retain-good = jobs-good t (sym e ∙ z)
+    retain-good = jobs-good t (sym none)
 
     -- a flag for each of its jobs
-    pub retain-flags : {n : ℕ} → n ≡ 64 → t.count ≤ n
-    retain-flags h = omega (arith, retain-good.within.jobs)
+    pub retain-flags : {staying : List ℕ} → Retains t staying → t.count ≤ length staying
+    retain-flags flags = omega (arith, retain-good.within.jobs, flags.room)
 
     -- the flags keep what retention keeps
-    pub retain-done : {staying : List ℕ} {k : LentJobs} → map marked (take t.count staying) ≡ kept_statuses (rows_from (λ i. get_or t.job_marks (2 * i) 0) 0 t.count) → Keeps t staying k
-        → Answers (retain_call t) (Jobs k.count) k.job_ids k.job_marks k.job_specs k.source_marks k.source_runs k.source_views
+    pub retain-done : {A : Type 0} {x : A} {staying : List ℕ} {k : LentJobs} → Retains t staying → Keeps t staying k → Answers {A = A} (retain_call t) (Ok x) k
     unfolding retain_call jobs_of good_jobs
-    retain-done {staying} {k} flags kept =
+    retain-done {staying = staying} {k = k} flags kept =
         let js = jobs_of t in
         let rises : rising js ≡ true = and_left (rising js) (all good_job js) retain-good.rules in
         let are : map (kept_of js) js ≡ kept_statuses (map (λ (x : Job). x.status) js) = kept-are [] js rises in
-        let says : map marked (take t.count staying) ≡ map (kept_of js) js = flags ∙ ap kept_statuses (sym (statuses-are t 0 0 t.count)) ∙ sym are in
-        call-done (jobs_refusal t) (retained js) t k (sym e ∙ z) (kept.kept (kept_of js) says ∙ ap (lay_jobs t) (keep-retained (kept_of js) js are))
+        let says : map marked (take t.count staying) ≡ map (kept_of js) js = flags.says ∙ ap kept_statuses (sym (statuses-are t 0 0 t.count)) ∙ sym are in
+        call-done (retained js) t k (sym none) (kept.kept (kept_of js) says ∙ ap (lay_jobs t) (keep-retained (kept_of js) js are))

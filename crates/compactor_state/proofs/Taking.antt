@@ -9,12 +9,13 @@ use lib.Dec.{ltb}
 use lib.ListN.{length, get_or, take, drop, length-drop}
 use lib.Seq.{get_or-take, get_or-drop, length-take-le}
 use borrow.Author.Tests.{not-true, ltb-false}
-use Rattle.rules.specs.Lists.{keep}
-use Rattle.rules.specs.Tables.{Job}
-use Rattle.rules.specs.Lent.{LentJobs, rows_from, source_at, source_count, sources_used, job_at, jobs_from, jobs_of, sources_of, lay_jobs}
+use Rattle.rules.specs.Lists.{any, keep}
+use Rattle.rules.specs.declared.tables.Ulid.{Ulid}
+use Rattle.rules.specs.Tables.{same_ulid, Job}
+use Rattle.rules.specs.Lent.{LentJobs, rows_from, ulid_at, source_at, source_count, sources_used, job_at, jobs_from, jobs_of, sources_of, lay_jobs}
 use Rattle.rules.specs.Bounds.{max_jobs, max_sources}
 use Rattle.rules.specs.Validation.{lent_sources}
-use Rattle.rules.specs.Jobs.{job_of, inserted, merged, too_many}
+use Rattle.rules.specs.Jobs.{LentJob, job_of, inserted, merged, too_many}
 use Rattle.rules.proofs.Lookups.{and_left, and_right, or_left, or_right}
 use Rattle.rules.proofs.Records.{job-eq, source-eq, ulid-eq}
 use Rattle.rules.proofs.Rows.{rows_from-same, length-rows_from}
@@ -26,7 +27,7 @@ use Rattle.rows.proofs.Sums.{Summed, sum-starts, sum-next}
 use Rattle.rows.proofs.Lift.{marks-say}
 use Rattle.merging.specs.Merge.{adopted, stays, inserted_all, all_new, Flags}
 use Rattle.merging.proofs.Merged.{Takes, merged-takes, length-all, entries-all}
-use Rattle.job_rows.specs.Slices.{AtCapacity, HasRoom, Inserts, Keeps, lent_job}
+use Rattle.job_rows.specs.Slices.{AtCapacity, HasRoom, Inserts, Keeps}
 use Rattle.job_rows.proofs.Again.{lay-again, lay-fits}
 use Rattle.compactor_state.specs.Taking.{with_flag, CanTake, Took, CanTakeAll, TookAll, Ready}
 
@@ -76,30 +77,42 @@ module _ (l r : LentJobs) {flags : List ℕ} {i at e f g : ℕ} (can : CanTake l
   views-in : 2 * (at + source_count r i) ≤ length r.source_views
   views-in = omega (arith, can.entries, can.there.source_views)
 
-  -- the room that insert_job asks for
-  pub part_room : HasRoom l marks runs views
-  part_room =
-      let m : length marks ≡ source_count r i = part_length r.source_marks at (source_count r i) marks-in e he in
-      record {
-        capacity = can.here;
-        job_fits = can.job_fits (has-flag (get_or flags i 0) flag);
-        entries_fit = omega (arith, can.entries_fit (has-flag (get_or flags i 0) flag));
-        runs_agree = part_length r.source_runs at (source_count r i) runs-in e he ∙ sym m;
-        views_agree = length-take-le (g - f) (drop f r.source_views) (omega (arith, views-in, length-drop f r.source_views)) ∙ omega arith;
-      }
+  -- the job that is put in: remote job i, lent by itself
+  module _ {id : Ulid} (v : id ≡ ulid_at r.job_ids (2 * i)) where
+    abbrev part : LentJob
+    part = record {
+      id = id;
+      status = get_or r.job_marks (2 * i) 0;
+      drain = get_or r.job_marks (2 * i + 1) 0;
+      prefix = get_or r.job_specs (3 * i) 0;
+      destination = get_or r.job_specs (3 * i + 1) 0;
+      marks = marks;
+      runs = runs;
+      views = views;
+    }
 
-  -- the job that it puts at its place is remote job i
-  pub part-put : {k : LentJobs}
-      → Inserts l (lent_job (get_or r.job_ids (2 * i) 0) (get_or r.job_ids (2 * i + 1) 0) (get_or r.job_marks (2 * i) 0) (get_or r.job_marks (2 * i + 1) 0) (get_or r.job_specs (3 * i) 0) (get_or r.job_specs (3 * i + 1) 0) marks runs views) k
-      → Took l r flags i at k
-  unfolding job_of
-  part-put p = record {
-    left = λ no. absurd (true≢false (sym (has-flag (get_or flags i 0) flag) ∙ no));
-    put = λ has new.
-        p.placed new
-        ∙ ap (λ (j : Job). lay_jobs l (inserted j (jobs_of l)))
-        (job-eq refl refl refl refl refl (part-sources r.source_marks r.source_runs r.source_views at (source_count r i) marks-in runs-in views-in e f g he hf hg));
-  }
+    -- there is room for it
+    pub part_room : HasRoom l part
+    part_room =
+        let m : length marks ≡ source_count r i = part_length r.source_marks at (source_count r i) marks-in e he in
+        record {
+          capacity = can.here;
+          job_fits = can.job_fits (has-flag (get_or flags i 0) flag);
+          entries_fit = omega (arith, can.entries_fit (has-flag (get_or flags i 0) flag));
+          runs_agree = part_length r.source_runs at (source_count r i) runs-in e he ∙ sym m;
+          views_agree = length-take-le (g - f) (drop f r.source_views) (omega (arith, views-in, length-drop f r.source_views)) ∙ omega arith;
+        }
+
+    -- it is put at its place
+    pub part-put : {k : LentJobs} → Inserts l part k → Took l r flags i at k
+    unfolding job_of
+    part-put p = record {
+      left = λ no. absurd (true≢false (sym (has-flag (get_or flags i 0) flag) ∙ no));
+      put = λ has new.
+          let same : job_of part ≡ job_at r i at = job-eq v refl refl refl refl (part-sources r.source_marks r.source_runs r.source_views at (source_count r i) marks-in runs-in views-in e f g he hf hg) in
+          p.placed (ap (λ (u : Ulid). any (λ y. same_ulid y.id u) (jobs_of l)) v ∙ new)
+          ∙ ap (λ (j : Job). lay_jobs l (inserted j (jobs_of l))) same;
+    }
 
 -- ---- all of them
 

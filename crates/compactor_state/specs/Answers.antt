@@ -1,13 +1,10 @@
--- What a call that changes the job table answers, and how it leaves the six slices.
-use Rattle.std.specs.Prelude.{◌≡◌, List, ℕ}
-use Rattle.rules.specs.declared.JobsAnswer.{JobsAnswer}
+-- What a call that changes the job table answers, and how it leaves the table, its count with it.
+use Rattle.std.specs.Prelude.{◌≡◌, Result}
+use Rattle.rules.specs.declared.answers.Refusal.{Refusal}
+use Rattle.rules.specs.Answers.{jobs_answer}
+use Rattle.rules.specs.Lent.{LentJobs}
 use Rattle.rules.specs.Calls.{JobsResult}
 
-pub record Answers (result : JobsResult) (answered : JobsAnswer) (ids marks specs entry_marks entry_runs entry_views : List ℕ) : Type 0 where
-  pub answer : answered ≡ result.answer
-  pub job_ids : ids ≡ result.jobs.job_ids
-  pub job_marks : marks ≡ result.jobs.job_marks
-  pub job_specs : specs ≡ result.jobs.job_specs
-  pub source_marks : entry_marks ≡ result.jobs.source_marks
-  pub source_runs : entry_runs ≡ result.jobs.source_runs
-  pub source_views : entry_views ≡ result.jobs.source_views
+pub record Answers {A : Type 0} (promised : JobsResult) (answered : Result A Refusal) (left : LentJobs) : Type 0 where
+  pub answer : jobs_answer answered left.count ≡ promised.answer
+  pub jobs : left ≡ promised.jobs

@@ -1,56 +1,39 @@
 // Adding a job: refusal 10.
-ghost use Rattle.std.specs.Prelude.{◌≡◌, ◌+◌, ◌*◌, ◌≤◌, length};
-ghost use Rattle.rules.specs.Lists.{any};
-ghost use Rattle.rules.specs.Lent.{rows_from};
+ghost use Rattle.std.specs.Prelude.{◌≡◌, ◌+◌, ◌*◌, ◌<◌, ◌≤◌, length};
+ghost use Rattle.rules.specs.Lent.{jobs_of};
+ghost use Rattle.rules.specs.Jobs.{job_of, clashes};
+ghost use Rattle.rows.specs.InSlices.{jobs_in};
+ghost use Rattle.job_rows.specs.Table.{job_in};
 ghost use Rattle.compactor_state.specs.Clash.{clash_at};
 
-// Whether job `i` clashes with a drain of this prefix, or with a tiered job of this destination.
+use job_rows::table::NewJob;
+use rows::jobs::Jobs;
+use rules::tables::{Kind, Status};
+
+// Whether job `i` clashes with a drain of this job's prefix, or with a tiered job of its destination.
 #[tactic(auto, unfolding(crate::specs::Clash::clash_at))]
-fn clashes_at(
-    job_marks: &[u8],
-    job_specs: &[u32],
-    i: usize,
-    drain: u8,
-    prefix: u32,
-    destination: u32,
-) -> bool
-    requires { (2 * i + 2 ≤ length job_marks.now) × (3 * i + 3 ≤ length job_specs.now) }
-    ensures { result ≡ clash_at job_marks.now job_specs.now drain prefix destination i }
+fn clashes_at(jobs: &Jobs, job: &NewJob, i: usize) -> bool
+    requires { (2 * i + 2 ≤ length jobs.now.marks.now) × (3 * i + 3 ≤ length jobs.now.specs.now) }
+    ensures { result ≡ clash_at jobs.now.marks.now jobs.now.specs.now job.now.drain job.now.prefix job.now.destination i }
 {
-    if job_marks[2 * i] > 3 {
-        return false;
+    let active = jobs.marks[2 * i] <= Status::Compacted as u8;
+    let is_drain = jobs.marks[2 * i + 1] == Kind::Drain as u8;
+    if job.drain == Kind::Drain as u8 {
+        return active && is_drain && jobs.specs[3 * i] == job.prefix;
     }
-    if drain == 1 {
-        if job_marks[2 * i + 1] != 1 {
-            return false;
-        }
-        return job_specs[3 * i] == prefix;
-    }
-    if job_marks[2 * i + 1] == 1 {
-        return false;
-    }
-    job_specs[3 * i + 1] == destination
+    active && !is_drain && jobs.specs[3 * i + 1] == job.destination
 }
 
-// "job is a drain and an active drain has its prefix, or its destination is an active job's destination": with any of `n`
+// "job is a drain and an active drain has its prefix, or its destination is an active job's destination": with any of the
 // jobs, the one of the same id too.
-pub fn clashes(
-    n: usize,
-    job_marks: &[u8],
-    job_specs: &[u32],
-    drain: u8,
-    prefix: u32,
-    destination: u32,
-) -> bool
-    requires { (2 * n ≤ length job_marks.now) × (3 * n ≤ length job_specs.now) }
-    ensures { result ≡ any (clash_at job_marks.now job_specs.now drain prefix destination) (rows_from (λ k. k) 0 n) }
+pub fn clashes(jobs: &Jobs, job: &NewJob) -> bool
+    requires { (2 * jobs.now.count ≤ length jobs.now.marks.now) × (3 * jobs.now.count ≤ length jobs.now.specs.now) }
+    ensures { result ≡ clashes (job_of (job_in job.now)) (jobs_of (jobs_in jobs.now)) }
 {
-    let mut i = 0;
-    while i < n {
-        if clashes_at(job_marks, job_specs, i, drain, prefix, destination) {
+    for i in 0..jobs.count {
+        if clashes_at(jobs, job, i) {
             return true;
         }
-        i += 1;
     }
     false
 }

@@ -1,9 +1,9 @@
 -- A C call answers 01's number, 0 where its work is done; values come out through pointers, which "keep their value on a
 -- refusal": value k of a case, or where the case has none what stood there.
 use Rattle.std.specs.Prelude.{ℕ, ◌≡◌, List, get_or}
-use Rattle.rules.specs.declared.PlanAnswer.{PlanAnswer}
-use Rattle.rules.specs.declared.JobsAnswer.{JobsAnswer}
-use Rattle.rules.specs.declared.FinishAnswer.{FinishAnswer}
+use Rattle.rules.specs.Answers.{PlanAnswer}
+use Rattle.rules.specs.Answers.{JobsAnswer}
+use Rattle.rules.specs.Answers.{FinishAnswer}
 use Rattle.rules.specs.Planning.{LentPlan}
 use Rattle.rules.specs.Calls.{plan_number, plan_values, PlanResult, jobs_number, jobs_values, JobsResult, finish_number, finish_values, FinishResult}
 

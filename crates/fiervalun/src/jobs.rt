@@ -1,25 +1,27 @@
 // Adding, merging and retention, for C. The job count stands behind a pointer, and is changed where the table is.
 ghost use Rattle.std.specs.Prelude.{◌≡◌};
+ghost use Rattle.rules.specs.Answers.{refused};
 ghost use Rattle.rules.specs.Lent.{lent_jobs};
 ghost use Rattle.rules.specs.Calls.{add_call, merge_call, retain_call};
 ghost use Rattle.job_rows.specs.Slices.{lent_job};
-ghost use Rattle.fiervalun.specs.Promises.{JobsPromise, JobsTold};
+ghost use Rattle.fiervalun.specs.Promises.{JobsPromise};
 
 use compactor_state::add::add;
 use compactor_state::merge::merge;
 use compactor_state::retain::retain;
-use rules::JobsAnswer;
+use job_rows::table::{JobTable, NewJob};
+use rows::jobs::Jobs;
+use rows::sources::Sources;
+use rules::answers::Refusal;
+use rules::tables::Ulid;
 
-// The answer as C has it: the number, and the count where it belongs. "Each returns its number alone".
-fn tell(a: JobsAnswer, job_count: &mut usize) -> u32
-    ensures { JobsTold a result job_count.old job_count.new }
+// The answer as C has it: "Each returns its number alone", 0 where the work is done.
+fn number(answer: Result<(), Refusal>) -> u32
+    ensures { result ≡ refused answer }
 {
-    match a {
-        JobsAnswer::Jobs(n) => {
-            *job_count = n;
-            0
-        }
-        JobsAnswer::Refused(n) => n,
+    match answer {
+        Ok(()) => 0,
+        Err(refusal) => refusal.number(),
     }
 }
 
@@ -44,25 +46,29 @@ pub extern "C" fn fiervalun_add(
 ) -> u32
     ensures { JobsPromise (add_call (lent_jobs job_count.old job_ids.old job_marks.old job_specs.old source_marks.old source_runs.old source_views.old) (lent_job id_high id_low status drain prefix destination marks.now runs.now views.now)) result job_count.old job_count.new job_ids.new job_marks.new job_specs.new source_marks.new source_runs.new source_views.new }
 {
-    let answer = add(
-        *job_count,
-        job_ids,
-        job_marks,
-        job_specs,
+    let mut jobs = JobTable {
+        count: *job_count,
+        ids: job_ids,
+        marks: job_marks,
+        specs: job_specs,
         source_marks,
         source_runs,
         source_views,
-        id_high,
-        id_low,
+    };
+    let job = NewJob {
+        id: Ulid {
+            high: id_high,
+            low: id_low,
+        },
         status,
         drain,
         prefix,
         destination,
-        marks,
-        runs,
-        views,
-    );
-    tell(answer, job_count)
+        sources: Sources { marks, runs, views },
+    };
+    let answer = add(&mut jobs, &job);
+    *job_count = jobs.count;
+    number(answer)
 }
 
 #[unsafe(no_mangle)]
@@ -84,23 +90,29 @@ pub extern "C" fn fiervalun_merge(
 ) -> u32
     ensures { JobsPromise (merge_call (lent_jobs job_count.old job_ids.old job_marks.old job_specs.old source_marks.old source_runs.old source_views.old) (lent_jobs remote_count remote_ids.now remote_marks.now remote_specs.now remote_source_marks.now remote_source_runs.now remote_source_views.now)) result job_count.old job_count.new job_ids.new job_marks.new job_specs.new source_marks.new source_runs.new source_views.new }
 {
-    let answer = merge(
-        *job_count,
-        job_ids,
-        job_marks,
-        job_specs,
+    let mut jobs = JobTable {
+        count: *job_count,
+        ids: job_ids,
+        marks: job_marks,
+        specs: job_specs,
         source_marks,
         source_runs,
         source_views,
-        remote_count,
-        remote_ids,
-        remote_marks,
-        remote_specs,
-        remote_source_marks,
-        remote_source_runs,
-        remote_source_views,
-    );
-    tell(answer, job_count)
+    };
+    let remote = Jobs {
+        count: remote_count,
+        ids: remote_ids,
+        marks: remote_marks,
+        specs: remote_specs,
+        sources: Sources {
+            marks: remote_source_marks,
+            runs: remote_source_runs,
+            views: remote_source_views,
+        },
+    };
+    let answer = merge(&mut jobs, &remote);
+    *job_count = jobs.count;
+    number(answer)
 }
 
 #[unsafe(no_mangle)]
@@ -115,14 +127,16 @@ pub extern "C" fn fiervalun_retain(
 ) -> u32
     ensures { JobsPromise (retain_call (lent_jobs job_count.old job_ids.old job_marks.old job_specs.old source_marks.old source_runs.old source_views.old)) result job_count.old job_count.new job_ids.new job_marks.new job_specs.new source_marks.new source_runs.new source_views.new }
 {
-    let answer = retain(
-        *job_count,
-        job_ids,
-        job_marks,
-        job_specs,
+    let mut jobs = JobTable {
+        count: *job_count,
+        ids: job_ids,
+        marks: job_marks,
+        specs: job_specs,
         source_marks,
         source_runs,
         source_views,
-    );
-    tell(answer, job_count)
+    };
+    let answer = retain(&mut jobs);
+    *job_count = jobs.count;
+    number(answer)
 }

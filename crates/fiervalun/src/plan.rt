@@ -1,24 +1,30 @@
 // Planning, for C.
 ghost use Rattle.std.specs.Prelude.{◌≡◌, ℕ, get_or};
 ghost use Rattle.rules.specs.Lent.{lent_trees, lent_jobs};
+ghost use Rattle.rules.specs.Answers.{plan_answer};
 ghost use Rattle.rules.specs.Calls.{plan_call};
 ghost use Rattle.size_tiered_compaction.specs.Proposing.{lent_plan};
 ghost use Rattle.fiervalun.specs.Promises.{PlanPromise, PlanTold};
 
-use rules::{Options, PlanAnswer};
+use plan_passes::lay::PlanTable;
+use rows::jobs::Jobs;
+use rows::sources::Sources;
+use rows::trees::Trees;
+use rules::Options;
+use rules::answers::{Planned, Refusal};
 use size_tiered_compaction::plan::plan;
 
 // The answer as C has it: the number, and the counts where they belong. "Each returns its number alone".
-fn tell(a: PlanAnswer, spec_count: &mut usize, pass_count: &mut usize) -> u32
-    ensures { PlanTold a result spec_count.old pass_count.old spec_count.new pass_count.new }
+fn tell(answer: Result<Planned, Refusal>, spec_count: &mut usize, pass_count: &mut usize) -> u32
+    ensures { PlanTold (plan_answer answer) result spec_count.old pass_count.old spec_count.new pass_count.new }
 {
-    match a {
-        PlanAnswer::Planned { specs, passes } => {
-            *spec_count = specs;
-            *pass_count = passes;
+    match answer {
+        Ok(made) => {
+            *spec_count = made.specs;
+            *pass_count = made.passes;
             0
         }
-        PlanAnswer::Refused(n) => n,
+        Err(refusal) => refusal.number(),
     }
 }
 
@@ -49,27 +55,33 @@ pub extern "C" fn fiervalun_plan(
 ) -> u32
     ensures { PlanPromise (plan_call options (lent_trees tree_count trees.now watermark_marks.now watermarks.now l0_ids.now l0_sizes.now run_ids.now run_sizes.now) (lent_jobs job_count job_ids.now job_marks.now job_specs.now source_marks.now source_runs.now source_views.now) (lent_plan plan_specs.old plan_marks.old plan_runs.old plan_views.old)) result (lent_plan plan_specs.new plan_marks.new plan_runs.new plan_views.new) spec_count.old pass_count.old spec_count.new pass_count.new }
 {
-    let answer = plan(
-        tree_count,
-        trees,
+    let lent = Trees {
+        count: tree_count,
+        rows: trees,
         watermark_marks,
         watermarks,
         l0_ids,
         l0_sizes,
         run_ids,
         run_sizes,
-        job_count,
-        job_ids,
-        job_marks,
-        job_specs,
-        source_marks,
-        source_runs,
-        source_views,
-        options,
-        plan_specs,
-        plan_marks,
-        plan_runs,
-        plan_views,
-    );
+    };
+    let jobs = Jobs {
+        count: job_count,
+        ids: job_ids,
+        marks: job_marks,
+        specs: job_specs,
+        sources: Sources {
+            marks: source_marks,
+            runs: source_runs,
+            views: source_views,
+        },
+    };
+    let mut table = PlanTable {
+        specs: plan_specs,
+        marks: plan_marks,
+        runs: plan_runs,
+        views: plan_views,
+    };
+    let answer = plan(&lent, &jobs, options, &mut table);
     tell(answer, spec_count, pass_count)
 }

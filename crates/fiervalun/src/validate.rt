@@ -4,17 +4,9 @@ ghost use Rattle.rules.specs.Lent.{lent_trees};
 ghost use Rattle.rules.specs.Validation.{lent_spec};
 ghost use Rattle.rules.specs.Calls.{validate_call, validate_number};
 
-use rules::ValidateAnswer;
-use size_tiered_compaction::validate::validate;
-
-fn number(a: ValidateAnswer) -> u32
-    ensures { result ≡ validate_number a }
-{
-    match a {
-        ValidateAnswer::Accepted => 0,
-        ValidateAnswer::Refused(n) => n,
-    }
-}
+use rows::sources::Sources;
+use rows::trees::Trees;
+use size_tiered_compaction::validate::{Spec, validate};
 
 #[unsafe(no_mangle)]
 pub extern "C" fn fiervalun_validate(
@@ -35,20 +27,24 @@ pub extern "C" fn fiervalun_validate(
 ) -> u32
     ensures { result ≡ validate_number (validate_call (lent_trees tree_count trees.now watermark_marks.now watermarks.now l0_ids.now l0_sizes.now run_ids.now run_sizes.now) (lent_spec drain prefix destination marks.now runs.now views.now)) }
 {
-    number(validate(
-        tree_count,
-        trees,
+    let lent = Trees {
+        count: tree_count,
+        rows: trees,
         watermark_marks,
         watermarks,
         l0_ids,
         l0_sizes,
         run_ids,
         run_sizes,
+    };
+    let spec = Spec {
         drain,
         prefix,
         destination,
-        marks,
-        runs,
-        views,
-    ))
+        sources: Sources { marks, runs, views },
+    };
+    match validate(&lent, &spec) {
+        Ok(()) => 0,
+        Err(refusal) => refusal.number(),
+    }
 }

@@ -1,8 +1,11 @@
 // 01's cabinet, and the jobs of its plan.
-use crate::job_calls::add_job;
+use crate::answers::JobChange;
+use crate::job_calls::{Kind, add};
+use crate::sources::{run, view};
 use crate::trees::{parted, root};
 use lent::jobs::Jobs;
 use lent::trees::Trees;
+use rules::tables::Status;
 
 // "Root: L0 a, b, c, d of size 1, runs 12, 11 of size 100. Segment 7: runs 10, 9 of size 50."
 pub fn cabinet() -> Trees {
@@ -10,26 +13,19 @@ pub fn cabinet() -> Trees {
 }
 
 // "prefix 0, b c d to 13"
-pub fn add_views(jobs: Jobs, job: u64) -> Jobs {
-    add_job(
-        jobs,
-        job,
-        0,
-        0,
-        0,
-        13,
-        &[0; 3],
-        &[0; 3],
-        &[0, 2, 0, 3, 0, 4],
-    )
+pub fn add_views(jobs: &mut Jobs, job: u64) -> JobChange {
+    let sources = [view(2), view(3), view(4)];
+    add(jobs, job, Status::Submitted, Kind::To(13), 0, &sources)
 }
 
 // "prefix 7, 10 9 to 9"
-pub fn add_segment(jobs: Jobs, job: u64) -> Jobs {
-    add_job(jobs, job, 0, 0, 7, 9, &[1, 1], &[10, 9], &[0; 4])
+pub fn add_segment(jobs: &mut Jobs, job: u64) -> JobChange {
+    let sources = [run(10), run(9)];
+    add(jobs, job, Status::Submitted, Kind::To(9), 7, &sources)
 }
 
 // "prefix 0, 12 11 to 11"
-pub fn add_runs(jobs: Jobs, job: u64) -> Jobs {
-    add_job(jobs, job, 0, 0, 0, 11, &[1, 1], &[12, 11], &[0; 4])
+pub fn add_runs(jobs: &mut Jobs, job: u64) -> JobChange {
+    let sources = [run(12), run(11)];
+    add(jobs, job, Status::Submitted, Kind::To(11), 0, &sources)
 }

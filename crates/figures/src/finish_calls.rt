@@ -1,9 +1,11 @@
-// Finish and drain of jobs whose ids have no high word; the answer is written.
-use crate::print::{refused, text};
+// Finish and drain of jobs whose ids have no high word.
+use crate::answers::End;
+use crate::job_text::show_job;
+use crate::tree_text::show_trees;
 use lent::endings::{Ending, end_job};
 use lent::jobs::Jobs;
 use lent::trees::Trees;
-use rules::FinishAnswer;
+use rules::tables::{Run, Ulid};
 use std::io;
 
 #[derive(Clone, Copy)]
@@ -12,38 +14,23 @@ pub struct Tables {
     pub jobs: Jobs,
 }
 
-fn show_answer(rt: &impl Print, answer: FinishAnswer) -> io::Result<()> {
-    match answer {
-        FinishAnswer::Committed => text(rt, b"committed\n"),
-        FinishAnswer::SegmentMissing => text(rt, b"segment missing\n"),
-        FinishAnswer::Refused(n) => refused(rt, n),
+impl Tables {
+    fn end(&mut self, job: u64, ending: Ending) -> End {
+        let id = Ulid { high: 0, low: job };
+        End(end_job(&mut self.trees, &mut self.jobs, id, ending))
     }
-}
 
-fn end(rt: &impl Print, tables: Tables, job: u64, ending: Ending) -> io::Result<Tables> {
-    let trees = tables.trees;
-    let jobs = tables.jobs;
-    let left = end_job(trees, jobs, 0, job, ending);
-    let answer = left.answer;
-    let left_trees = left.trees;
-    let left_jobs = left.jobs;
-    show_answer(rt, answer)?;
-    Ok(Tables {
-        trees: left_trees,
-        jobs: left_jobs,
-    })
-}
+    pub fn finish(&mut self, job: u64, output: u32, size: u64) -> End {
+        self.end(job, Ending::Finish(Run { id: output, size }))
+    }
 
-pub fn finish_job(
-    rt: &impl Print,
-    tables: Tables,
-    job: u64,
-    output: u32,
-    size: u64,
-) -> io::Result<Tables> {
-    end(rt, tables, job, Ending::Finish { output, size })
-}
+    pub fn drain(&mut self, job: u64) -> End {
+        self.end(job, Ending::Drain)
+    }
 
-pub fn drain_job(rt: &impl Print, tables: Tables, job: u64) -> io::Result<Tables> {
-    end(rt, tables, job, Ending::Drain)
+    // The trees, and the job in row i.
+    pub fn show(&self, rt: &impl Print, trees: &[&str], job: &str, i: usize) -> io::Result<()> {
+        show_trees(rt, trees, &self.trees)?;
+        show_job(rt, job, &self.jobs, i)
+    }
 }

@@ -1,70 +1,81 @@
 // Jobs as text.
-use crate::print::{counted, number, refused, row, text};
-use crate::spec_text::show_spec;
+use crate::show::row;
+use crate::specs::{SpecText, spec_of};
 use lent::jobs::Jobs;
 use rows::bounds::column_sum;
-use std::io;
+use rules::tables::Status;
+use std::{fmt, io};
 
-// What the last call answered: the new job count, or a refusal.
-pub fn show_answer(rt: &impl Print, jobs: Jobs) -> io::Result<()> {
-    if jobs.refusal != 0 {
-        refused(rt, jobs.refusal)
-    } else {
-        counted(rt, jobs.count, b"job")?;
-        text(rt, b"\n")
+// The statuses in the order of their numbers.
+const STATUSES: [Status; 6] = [
+    Status::Submitted,
+    Status::Scheduled,
+    Status::Running,
+    Status::Compacted,
+    Status::Completed,
+    Status::Failed,
+];
+
+// A job whose id has no high word.
+#[derive(Clone, Copy)]
+struct Job<'a> {
+    id: u64,
+    status: Status,
+    spec: SpecText<'a>,
+}
+
+impl fmt::Display for Job<'_> {
+    fn fmt<W: fmt::Write>(&self, f: &mut fmt::Formatter<W>) -> fmt::Result {
+        write!(f, "{} {:?}: {}", self.id, self.status, self.spec)
     }
 }
 
-fn show_status(rt: &impl Print, status: u8) -> io::Result<()> {
-    match status {
-        0 => text(rt, b"Submitted"),
-        1 => text(rt, b"Scheduled"),
-        2 => text(rt, b"Running"),
-        3 => text(rt, b"Compacted"),
-        4 => text(rt, b"Completed"),
-        5 => text(rt, b"Failed"),
-        _ => text(rt, b"?"),
+// The job in row i.
+fn job_of(jobs: &Jobs, i: usize) -> Option<Job<'_>> {
+    if i >= 64 {
+        return None;
     }
+    let sources = jobs.lent().sources;
+    Some(Job {
+        id: jobs.ids[2 * i + 1],
+        status: *STATUSES.get(jobs.marks[2 * i] as usize)?,
+        spec: SpecText(spec_of(&jobs.specs, &sources, i, jobs.marks[2 * i + 1])?),
+    })
 }
 
 // The job in row i, behind what 01 says of it.
-pub fn show_job(rt: &impl Print, expected: &[u8], jobs: Jobs, i: usize) -> io::Result<()> {
-    row(rt, expected)?;
-    if i >= 64 {
-        return Ok(());
+pub fn show_job(rt: &impl Print, expected: &str, jobs: &Jobs, i: usize) -> io::Result<()> {
+    match job_of(jobs, i) {
+        Some(job) => row(rt, expected, &job),
+        None => row(rt, expected, &"no job"),
     }
-    let ids = jobs.ids;
-    let marks = jobs.marks;
-    let specs = jobs.specs;
-    let source_marks = jobs.source_marks;
-    let source_runs = jobs.source_runs;
-    let source_views = jobs.source_views;
-    number(rt, ids[2 * i + 1])?;
-    text(rt, b" ")?;
-    show_status(rt, marks[2 * i])?;
-    text(rt, b": ")?;
-    let drain = marks[2 * i + 1];
-    show_spec(
-        rt,
-        &specs,
-        &source_marks,
-        &source_runs,
-        &source_views,
-        i,
-        drain,
-    )
+}
+
+// The first jobs, each behind what 01 says of it.
+pub fn show_jobs(rt: &impl Print, expected: &[&str], jobs: &Jobs) -> io::Result<()> {
+    for (i, job) in expected.iter().enumerate() {
+        show_job(rt, *job, jobs, i)?;
+    }
+    Ok(())
 }
 
 // How many jobs and source entries there are.
-pub fn show_counts(rt: &impl Print, expected: &[u8], jobs: Jobs) -> io::Result<()> {
-    row(rt, expected)?;
-    if jobs.count > 64 {
-        return Ok(());
+#[derive(Clone, Copy)]
+struct Counts {
+    jobs: usize,
+    entries: usize,
+}
+
+impl fmt::Display for Counts {
+    fn fmt<W: fmt::Write>(&self, f: &mut fmt::Formatter<W>) -> fmt::Result {
+        write!(f, "{} jobs, {} entries", self.jobs, self.entries)
     }
-    let specs = jobs.specs;
-    let entries = column_sum(&specs, 2, jobs.count);
-    number(rt, jobs.count as u64)?;
-    text(rt, b" jobs, ")?;
-    number(rt, entries as u64)?;
-    text(rt, b" entries\n")
+}
+
+pub fn show_counts(rt: &impl Print, expected: &str, jobs: &Jobs) -> io::Result<()> {
+    let counts = Counts {
+        jobs: jobs.count,
+        entries: column_sum(&jobs.specs, 2, jobs.count.min(64)),
+    };
+    row(rt, expected, &counts)
 }

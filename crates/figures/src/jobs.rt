@@ -1,142 +1,168 @@
 // A job table from the first job on: adding, merging and retention.
+use crate::answers::JobChange;
 use crate::cabinet::{add_runs, add_segment, add_views};
-use crate::job_calls::add_job;
-use crate::job_text::{show_answer, show_job};
-use crate::print::{call, heading};
-use lent::jobs::{Jobs, merge_jobs, no_jobs, retain_jobs};
+use crate::job_calls::{Kind, add, merge, retain};
+use crate::job_text::show_jobs;
+use crate::show::{call, heading};
+use crate::sources::{run, view};
+use lent::jobs::Jobs;
+use rules::tables::Status;
 use std::io;
 
-fn two_jobs(rt: &impl Print) -> io::Result<Jobs> {
-    call(rt, b"add 1 Submitted: prefix 0, 12 11 to 11", b"1 job")?;
-    let one = add_runs(no_jobs(), 1);
-    show_answer(rt, one)?;
+fn two_jobs(rt: &impl Print, jobs: &mut Jobs) -> io::Result<()> {
     call(
         rt,
-        b"add 2 Submitted: prefix 0, view 2 view 3 view 4 to 13",
-        b"2 jobs",
+        "add 1 Submitted: prefix 0, 12 11 to 11",
+        "1 job",
+        &add_runs(jobs, 1),
     )?;
-    let two = add_views(one, 2);
-    show_answer(rt, two)?;
-    show_job(rt, b"1 Submitted: prefix 0, 12 11 to 11", two, 0)?;
-    show_job(
+    call(
         rt,
-        b"2 Submitted: prefix 0, view 2 view 3 view 4 to 13",
-        two,
-        1,
+        "add 2 Submitted: prefix 0, view 2 view 3 view 4 to 13",
+        "2 jobs",
+        &add_views(jobs, 2),
     )?;
-    Ok(two)
+    show_jobs(
+        rt,
+        &[
+            "1 Submitted: prefix 0, 12 11 to 11",
+            "2 Submitted: prefix 0, view 2 view 3 view 4 to 13",
+        ],
+        jobs,
+    )
 }
 
 // "Adding an id already present replaces that record."
-fn replaced(rt: &impl Print, jobs: Jobs) -> io::Result<Jobs> {
-    call(rt, b"add 1 Submitted: prefix 7, 10 9 to 9", b"2 jobs")?;
-    let after = add_segment(jobs, 1);
-    show_answer(rt, after)?;
-    show_job(rt, b"1 Submitted: prefix 7, 10 9 to 9", after, 0)?;
-    show_job(
+fn replaced(rt: &impl Print, jobs: &mut Jobs) -> io::Result<()> {
+    call(
         rt,
-        b"2 Submitted: prefix 0, view 2 view 3 view 4 to 13",
-        after,
-        1,
+        "add 1 Submitted: prefix 7, 10 9 to 9",
+        "2 jobs",
+        &add_segment(jobs, 1),
     )?;
-    Ok(after)
+    show_jobs(
+        rt,
+        &[
+            "1 Submitted: prefix 7, 10 9 to 9",
+            "2 Submitted: prefix 0, view 2 view 3 view 4 to 13",
+        ],
+        jobs,
+    )
 }
 
 // "its destination is an active job's destination": refused 10, and the table is as it was.
-fn destination_taken(rt: &impl Print, jobs: Jobs) -> io::Result<Jobs> {
+fn destination_taken(rt: &impl Print, jobs: &mut Jobs) -> io::Result<()> {
     call(
         rt,
-        b"add 3 Submitted: prefix 0, view 1 to 13",
-        b"refused 10",
+        "add 3 Submitted: prefix 0, view 1 to 13",
+        "refused 10",
+        &add(jobs, 3, Status::Submitted, Kind::To(13), 0, &[view(1)]),
     )?;
-    let after = add_job(jobs, 3, 0, 0, 0, 13, &[0], &[0], &[0, 1]);
-    show_answer(rt, after)?;
-    show_job(rt, b"1 Submitted: prefix 7, 10 9 to 9", after, 0)?;
-    show_job(
+    show_jobs(
         rt,
-        b"2 Submitted: prefix 0, view 2 view 3 view 4 to 13",
-        after,
-        1,
-    )?;
-    Ok(after)
+        &[
+            "1 Submitted: prefix 7, 10 9 to 9",
+            "2 Submitted: prefix 0, view 2 view 3 view 4 to 13",
+        ],
+        jobs,
+    )
 }
 
 // "job is a drain and an active drain has its prefix": the first drain of prefix 8 is added, the second refused 10.
-fn drains(rt: &impl Print, jobs: Jobs) -> io::Result<Jobs> {
-    call(rt, b"add 3 Submitted: prefix 8, 6 drained", b"3 jobs")?;
-    let first = add_job(jobs, 3, 0, 1, 8, 0, &[1], &[6], &[0; 2]);
-    show_answer(rt, first)?;
-    call(rt, b"add 4 Submitted: prefix 8, 5 drained", b"refused 10")?;
-    let second = add_job(first, 4, 0, 1, 8, 0, &[1], &[5], &[0; 2]);
-    show_answer(rt, second)?;
-    show_job(rt, b"1 Submitted: prefix 7, 10 9 to 9", second, 0)?;
-    show_job(
+fn drains(rt: &impl Print, jobs: &mut Jobs) -> io::Result<()> {
+    call(
         rt,
-        b"2 Submitted: prefix 0, view 2 view 3 view 4 to 13",
-        second,
-        1,
+        "add 3 Submitted: prefix 8, 6 drained",
+        "3 jobs",
+        &add(jobs, 3, Status::Submitted, Kind::Drained, 8, &[run(6)]),
     )?;
-    show_job(rt, b"3 Submitted: prefix 8, 6 drained", second, 2)?;
-    Ok(second)
+    call(
+        rt,
+        "add 4 Submitted: prefix 8, 5 drained",
+        "refused 10",
+        &add(jobs, 4, Status::Submitted, Kind::Drained, 8, &[run(5)]),
+    )?;
+    show_jobs(
+        rt,
+        &[
+            "1 Submitted: prefix 7, 10 9 to 9",
+            "2 Submitted: prefix 0, view 2 view 3 view 4 to 13",
+            "3 Submitted: prefix 8, 6 drained",
+        ],
+        jobs,
+    )
 }
 
 // Jobs 1 Compacted, 2 Running, 4 Failed, 5 Completed and 6 Scheduled.
-fn remote_jobs() -> Jobs {
-    let one = add_job(no_jobs(), 1, 3, 0, 0, 11, &[1, 1], &[12, 11], &[0; 4]);
-    let two = add_job(one, 2, 2, 0, 0, 14, &[0], &[0], &[0, 4]);
-    let three = add_job(two, 4, 5, 0, 7, 4, &[1], &[4], &[0; 2]);
-    let four = add_job(three, 5, 4, 0, 7, 5, &[1], &[5], &[0; 2]);
-    add_job(four, 6, 1, 0, 7, 6, &[1], &[6], &[0; 2])
+fn add_remote(jobs: &mut Jobs) -> JobChange {
+    let runs = [run(12), run(11)];
+    add(jobs, 1, Status::Compacted, Kind::To(11), 0, &runs);
+    add(jobs, 2, Status::Running, Kind::To(14), 0, &[view(4)]);
+    add(jobs, 4, Status::Failed, Kind::To(4), 7, &[run(4)]);
+    add(jobs, 5, Status::Completed, Kind::To(5), 7, &[run(5)]);
+    add(jobs, 6, Status::Scheduled, Kind::To(6), 7, &[run(6)])
 }
 
-fn show_remote(rt: &impl Print, remote: Jobs) -> io::Result<()> {
-    call(rt, b"add five jobs to a remote table", b"5 jobs")?;
-    show_answer(rt, remote)?;
-    show_job(rt, b"1 Compacted: prefix 0, 12 11 to 11", remote, 0)?;
-    show_job(rt, b"2 Running: prefix 0, view 4 to 14", remote, 1)?;
-    show_job(rt, b"4 Failed: prefix 7, 4 to 4", remote, 2)?;
-    show_job(rt, b"5 Completed: prefix 7, 5 to 5", remote, 3)?;
-    show_job(rt, b"6 Scheduled: prefix 7, 6 to 6", remote, 4)
+fn remote_jobs(rt: &impl Print, remote: &mut Jobs) -> io::Result<()> {
+    call(
+        rt,
+        "add five jobs to a remote table",
+        "5 jobs",
+        &add_remote(remote),
+    )?;
+    show_jobs(
+        rt,
+        &[
+            "1 Compacted: prefix 0, 12 11 to 11",
+            "2 Running: prefix 0, view 4 to 14",
+            "4 Failed: prefix 7, 4 to 4",
+            "5 Completed: prefix 7, 5 to 5",
+            "6 Scheduled: prefix 7, 6 to 6",
+        ],
+        remote,
+    )
 }
 
 // Of the adoption table: 0 adopts 3 and not 2; absent adopts 5 and 4, and not 1. "Local jobs missing remotely stay.": job 3.
-fn merged(rt: &impl Print, jobs: Jobs, remote: Jobs) -> io::Result<Jobs> {
-    call(rt, b"merge it", b"5 jobs")?;
-    let after = merge_jobs(jobs, remote);
-    show_answer(rt, after)?;
-    show_job(rt, b"1 Compacted: prefix 0, 12 11 to 11", after, 0)?;
-    show_job(
+fn merged(rt: &impl Print, jobs: &mut Jobs, remote: &Jobs) -> io::Result<()> {
+    call(rt, "merge it", "5 jobs", &merge(jobs, remote))?;
+    show_jobs(
         rt,
-        b"2 Submitted: prefix 0, view 2 view 3 view 4 to 13",
-        after,
-        1,
-    )?;
-    show_job(rt, b"3 Submitted: prefix 8, 6 drained", after, 2)?;
-    show_job(rt, b"4 Failed: prefix 7, 4 to 4", after, 3)?;
-    show_job(rt, b"5 Completed: prefix 7, 5 to 5", after, 4)?;
-    Ok(after)
+        &[
+            "1 Compacted: prefix 0, 12 11 to 11",
+            "2 Submitted: prefix 0, view 2 view 3 view 4 to 13",
+            "3 Submitted: prefix 8, 6 drained",
+            "4 Failed: prefix 7, 4 to 4",
+            "5 Completed: prefix 7, 5 to 5",
+        ],
+        jobs,
+    )
 }
 
 // "Retention keeps active jobs and the finished job of largest id.": job 4 goes.
-fn retained(rt: &impl Print, jobs: Jobs) -> io::Result<()> {
-    call(rt, b"retain", b"4 jobs")?;
-    let after = retain_jobs(jobs);
-    show_answer(rt, after)?;
-    show_job(rt, b"1 Compacted: prefix 0, 12 11 to 11", after, 0)?;
-    show_job(
+fn retained(rt: &impl Print, jobs: &mut Jobs) -> io::Result<()> {
+    call(rt, "retain", "4 jobs", &retain(jobs))?;
+    show_jobs(
         rt,
-        b"2 Submitted: prefix 0, view 2 view 3 view 4 to 13",
-        after,
-        1,
-    )?;
-    show_job(rt, b"3 Submitted: prefix 8, 6 drained", after, 2)?;
-    show_job(rt, b"5 Completed: prefix 7, 5 to 5", after, 3)
+        &[
+            "1 Compacted: prefix 0, 12 11 to 11",
+            "2 Submitted: prefix 0, view 2 view 3 view 4 to 13",
+            "3 Submitted: prefix 8, 6 drained",
+            "5 Completed: prefix 7, 5 to 5",
+        ],
+        jobs,
+    )
 }
 
 pub fn adding_and_merging(rt: &impl Print) -> io::Result<()> {
-    heading(rt, b"Jobs: adding, merging and retention")?;
-    let added = drains(rt, destination_taken(rt, replaced(rt, two_jobs(rt)?)?)?)?;
-    let remote = remote_jobs();
-    show_remote(rt, remote)?;
-    retained(rt, merged(rt, added, remote)?)
+    heading(rt, "Jobs: adding, merging and retention")?;
+    let mut jobs = Jobs::default();
+    two_jobs(rt, &mut jobs)?;
+    replaced(rt, &mut jobs)?;
+    destination_taken(rt, &mut jobs)?;
+    drains(rt, &mut jobs)?;
+    let mut remote = Jobs::default();
+    remote_jobs(rt, &mut remote)?;
+    merged(rt, &mut jobs, &remote)?;
+    retained(rt, &mut jobs)
 }

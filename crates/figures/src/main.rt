@@ -2,6 +2,7 @@
 // came of it.
 #![tactic(auto)]
 
+mod answers;
 mod bounds;
 mod cabinet;
 mod finish_calls;
@@ -13,12 +14,12 @@ mod jobs;
 mod limits;
 mod plan_calls;
 mod plan_refusals;
-mod plan_text;
 mod planned_jobs;
 mod planning;
-mod print;
 mod refusals;
-mod spec_text;
+mod show;
+mod sources;
+mod specs;
 mod tree_text;
 mod trees;
 mod validation;
@@ -27,11 +28,8 @@ use std::io;
 
 // "Figures to hold to", in 01's order.
 fn figures(rt: &impl Print) -> io::Result<()> {
-    print::heading(rt, b"Figures of document 01")?;
-    print::text(
-        rt,
-        b"a, b, c, d are the views 1 to 4 of the SSTs 21 to 24; sizes stand in brackets\n",
-    )?;
+    show::heading(rt, "Figures of document 01")?;
+    println!(rt; "a, b, c, d are the views 1 to 4 of the SSTs 21 to 24; sizes stand in brackets")?;
     limits::limits(rt)?;
     planning::planning(rt)?;
     validation::validation(rt)?;

@@ -1,7 +1,6 @@
 // Document 01's figures of planning.
 use crate::cabinet::cabinet;
-use crate::plan_calls::options;
-use crate::plan_text::{show_one_spec, show_plan, show_planned};
+use crate::plan_calls::{options, show_one_spec, show_plan};
 use crate::trees::root;
 use std::io;
 
@@ -10,16 +9,16 @@ use std::io;
 fn chains(rt: &impl Print) -> io::Result<()> {
     show_one_spec(
         rt,
-        b"plan runs of 100, 10, 1, threshold 4, min 2, max 3",
-        b"prefix 0, 3 2 1 to 1",
-        root(0, 3, &[100, 10, 1]),
+        "plan runs of 100, 10, 1, threshold 4, min 2, max 3",
+        "prefix 0, 3 2 1 to 1",
+        &root(0, 3, &[100, 10, 1]),
         options(4.0, 2, 3, 3),
     )?;
     show_one_spec(
         rt,
-        b"plan runs of 1, 4, 5, threshold 4, min 2, max 3",
-        b"prefix 0, 3 2 to 2",
-        root(0, 3, &[1, 4, 5]),
+        "plan runs of 1, 4, 5, threshold 4, min 2, max 3",
+        "prefix 0, 3 2 to 2",
+        &root(0, 3, &[1, 4, 5]),
         options(4.0, 2, 3, 3),
     )
 }
@@ -29,9 +28,9 @@ fn chains(rt: &impl Print) -> io::Result<()> {
 fn own_list(rt: &impl Print) -> io::Result<()> {
     show_one_spec(
         rt,
-        b"plan runs 5 to 1 of size 10, threshold 4, min 2, max 3",
-        b"prefix 0, 3 2 1 to 1",
-        root(0, 5, &[10; 5]),
+        "plan runs 5 to 1 of size 10, threshold 4, min 2, max 3",
+        "prefix 0, 3 2 1 to 1",
+        &root(0, 5, &[10; 5]),
         options(4.0, 2, 3, 9),
     )
 }
@@ -39,30 +38,32 @@ fn own_list(rt: &impl Print) -> io::Result<()> {
 // "F = 3, no jobs. Plan whole: prefix 0, b c d to 13; prefix 7, 10 9 to 9; prefix 0, 12 11 to 11; passes 2. F = 2: the first two,
 // passes 1. F = 0: none, passes 0."
 fn plans_of_the_cabinet(rt: &impl Print) -> io::Result<()> {
+    let specs = [
+        "prefix 0, view 2 view 3 view 4 to 13",
+        "prefix 7, 10 9 to 9",
+        "prefix 0, 12 11 to 11",
+    ];
     let whole = show_plan(
         rt,
-        b"plan the cabinet, F = 3",
-        b"3 specs, passes 2",
-        cabinet(),
+        "plan the cabinet, F = 3",
+        "3 specs, passes 2",
+        &cabinet(),
         options(4.0, 2, 3, 3),
     )?;
-    show_planned(rt, b"prefix 0, view 2 view 3 view 4 to 13", whole, 0)?;
-    show_planned(rt, b"prefix 7, 10 9 to 9", whole, 1)?;
-    show_planned(rt, b"prefix 0, 12 11 to 11", whole, 2)?;
+    whole.show(rt, &specs)?;
     let part = show_plan(
         rt,
-        b"plan the cabinet, F = 2",
-        b"2 specs, passes 1",
-        cabinet(),
+        "plan the cabinet, F = 2",
+        "2 specs, passes 1",
+        &cabinet(),
         options(4.0, 2, 3, 2),
     )?;
-    show_planned(rt, b"prefix 0, view 2 view 3 view 4 to 13", part, 0)?;
-    show_planned(rt, b"prefix 7, 10 9 to 9", part, 1)?;
+    part.show(rt, &specs[..2])?;
     show_plan(
         rt,
-        b"plan the cabinet, F = 0",
-        b"0 specs, passes 0",
-        cabinet(),
+        "plan the cabinet, F = 0",
+        "0 specs, passes 0",
+        &cabinet(),
         options(4.0, 2, 3, 0),
     )?;
     Ok(())

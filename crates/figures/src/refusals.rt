@@ -1,175 +1,185 @@
 // What finish and drain refuse, a missing segment, and draining.
 use crate::cabinet::{add_segment, cabinet};
-use crate::finish_calls::{Tables, drain_job, finish_job};
-use crate::job_calls::add_job;
-use crate::job_text::show_job;
-use crate::print::{call, heading};
-use crate::tree_text::show_tree;
+use crate::finish_calls::Tables;
+use crate::job_calls::{Kind, add};
+use crate::job_text::show_jobs;
+use crate::show::{call, heading};
+use crate::sources::{run, view};
+use crate::tree_text::show_trees;
 use crate::trees::root;
-use lent::jobs::{Jobs, no_jobs};
-use lent::trees::Trees;
+use lent::jobs::Jobs;
+use rules::tables::Status;
 use std::io;
 
 // Job 1 is a drain of b, d and run 12 that names d first, job 2 has no sources, job 3 a prefix that no tree has, job 4 is tiered.
 fn four_jobs() -> Jobs {
-    let one = add_job(
-        no_jobs(),
-        1,
-        0,
-        1,
-        0,
-        0,
-        &[0, 0, 1],
-        &[0, 0, 12],
-        &[0, 4, 0, 2, 0, 0],
-    );
-    let two = add_job(one, 2, 0, 0, 0, 20, &[], &[], &[]);
-    let three = add_job(two, 3, 0, 0, 5, 21, &[1], &[21], &[0; 2]);
-    add_segment(three, 4)
+    let mut jobs = Jobs::default();
+    let first = [view(4), view(2), run(12)];
+    add(&mut jobs, 1, Status::Submitted, Kind::Drained, 0, &first);
+    add(&mut jobs, 2, Status::Submitted, Kind::To(20), 0, &[]);
+    add(&mut jobs, 3, Status::Submitted, Kind::To(21), 5, &[run(21)]);
+    add_segment(&mut jobs, 4);
+    jobs
 }
 
-// The cabinet as it was.
-fn show_cabinet(rt: &impl Print, trees: Trees) -> io::Result<()> {
-    show_tree(
+fn refused_finishes(rt: &impl Print, tables: &mut Tables) -> io::Result<()> {
+    call(
         rt,
-        b"prefix 0, L0 1 (1) 2 (1) 3 (1) 4 (1); runs 12 (100) 11 (100); watermark none",
-        trees,
-        0,
+        "finish 9, which is no job",
+        "refused 11",
+        &tables.finish(9, 11, 1),
     )?;
-    show_tree(
+    call(
         rt,
-        b"prefix 7, L0 none; runs 10 (50) 9 (50); watermark none",
-        trees,
-        1,
+        "finish 1, which is a drain",
+        "refused 12",
+        &tables.finish(1, 11, 1),
+    )?;
+    call(
+        rt,
+        "finish 2, which has no sources",
+        "refused 7",
+        &tables.finish(2, 20, 1),
+    )?;
+    call(
+        rt,
+        "finish 4 with output 12, a run of the other tree",
+        "refused 13",
+        &tables.finish(4, 12, 1),
+    )?;
+    call(
+        rt,
+        "drain 9, which is no job",
+        "refused 11",
+        &tables.drain(9),
+    )?;
+    call(
+        rt,
+        "drain 4, which is tiered",
+        "refused 12",
+        &tables.drain(4),
     )
 }
 
-fn show_jobs(rt: &impl Print, first: &[u8], third: &[u8], jobs: Jobs) -> io::Result<()> {
-    show_job(rt, first, jobs, 0)?;
-    show_job(rt, b"2 Submitted: prefix 0, nothing to 20", jobs, 1)?;
-    show_job(rt, third, jobs, 2)?;
-    show_job(rt, b"4 Submitted: prefix 7, 10 9 to 9", jobs, 3)
-}
-
-fn refused_finishes(rt: &impl Print, tables: Tables) -> io::Result<Tables> {
-    call(rt, b"finish 9, which is no job", b"refused 11")?;
-    let unknown = finish_job(rt, tables, 9, 11, 1)?;
-    call(rt, b"finish 1, which is a drain", b"refused 12")?;
-    let a_drain = finish_job(rt, unknown, 1, 11, 1)?;
-    call(rt, b"finish 2, which has no sources", b"refused 7")?;
-    let empty = finish_job(rt, a_drain, 2, 20, 1)?;
-    call(
+// The cabinet as it was, and the four jobs, of which the third may have failed.
+fn show_unchanged(rt: &impl Print, third: &str, tables: &Tables) -> io::Result<()> {
+    show_trees(
         rt,
-        b"finish 4 with output 12, a run of the other tree",
-        b"refused 13",
+        &[
+            "prefix 0, L0 1 (1) 2 (1) 3 (1) 4 (1); runs 12 (100) 11 (100); watermark none",
+            "prefix 7, L0 none; runs 10 (50) 9 (50); watermark none",
+        ],
+        &tables.trees,
     )?;
-    let elsewhere = finish_job(rt, empty, 4, 12, 1)?;
-    call(rt, b"drain 9, which is no job", b"refused 11")?;
-    let no_job = drain_job(rt, elsewhere, 9)?;
-    call(rt, b"drain 4, which is tiered", b"refused 12")?;
-    drain_job(rt, no_job, 4)
-}
-
-fn show_unchanged(rt: &impl Print, tables: Tables) -> io::Result<()> {
-    let trees = tables.trees;
-    let jobs = tables.jobs;
-    show_cabinet(rt, trees)?;
     show_jobs(
         rt,
-        b"1 Submitted: prefix 0, view 4 view 2 12 drained",
-        b"3 Submitted: prefix 5, 21 to 21",
-        jobs,
+        &[
+            "1 Submitted: prefix 0, view 4 view 2 12 drained",
+            "2 Submitted: prefix 0, nothing to 20",
+            third,
+            "4 Submitted: prefix 7, 10 9 to 9",
+        ],
+        &tables.jobs,
     )
 }
 
 // "A missing segment is no refusal: status becomes 5 and nothing else changes."
-fn missing_segment(rt: &impl Print, tables: Tables) -> io::Result<Tables> {
+fn missing_segment(rt: &impl Print, tables: &mut Tables) -> io::Result<()> {
     call(
         rt,
-        b"finish 3, whose segment is missing",
-        b"segment missing",
+        "finish 3, whose segment is missing",
+        "segment missing",
+        &tables.finish(3, 21, 1),
     )?;
-    let after = finish_job(rt, tables, 3, 21, 1)?;
-    let trees = after.trees;
-    let jobs = after.jobs;
-    show_cabinet(rt, trees)?;
-    show_jobs(
-        rt,
-        b"1 Submitted: prefix 0, view 4 view 2 12 drained",
-        b"3 Failed: prefix 5, 21 to 21",
-        jobs,
-    )?;
-    Ok(after)
+    show_unchanged(rt, "3 Failed: prefix 5, 21 to 21", tables)
 }
 
 // "Drain: the watermark moves to the first L0 row in table order that is a source, if any; source rows go; status 4.": b, though
 // the job names d first.
-fn drained(rt: &impl Print, tables: Tables) -> io::Result<()> {
-    call(rt, b"drain 1", b"committed")?;
-    let after = drain_job(rt, tables, 1)?;
-    let trees = after.trees;
-    let jobs = after.jobs;
-    show_tree(
+fn drained(rt: &impl Print, tables: &mut Tables) -> io::Result<()> {
+    call(rt, "drain 1", "committed", &tables.drain(1))?;
+    show_trees(
         rt,
-        b"prefix 0, L0 1 (1) 3 (1); runs 11 (100); watermark view 2 SST 22",
-        trees,
-        0,
-    )?;
-    show_tree(
-        rt,
-        b"prefix 7, L0 none; runs 10 (50) 9 (50); watermark none",
-        trees,
-        1,
+        &[
+            "prefix 0, L0 1 (1) 3 (1); runs 11 (100); watermark view 2 SST 22",
+            "prefix 7, L0 none; runs 10 (50) 9 (50); watermark none",
+        ],
+        &tables.trees,
     )?;
     show_jobs(
         rt,
-        b"1 Completed: prefix 0, view 4 view 2 12 drained",
-        b"3 Failed: prefix 5, 21 to 21",
-        jobs,
+        &[
+            "1 Completed: prefix 0, view 4 view 2 12 drained",
+            "2 Submitted: prefix 0, nothing to 20",
+            "3 Failed: prefix 5, 21 to 21",
+            "4 Submitted: prefix 7, 10 9 to 9",
+        ],
+        &tables.jobs,
     )
+}
+
+// A full root, job 1 of its view and job 2 of its first run.
+fn full_root() -> Tables {
+    let mut jobs = Jobs::default();
+    add(
+        &mut jobs,
+        1,
+        Status::Submitted,
+        Kind::To(513),
+        0,
+        &[view(1)],
+    );
+    add(
+        &mut jobs,
+        2,
+        Status::Submitted,
+        Kind::To(512),
+        0,
+        &[run(512)],
+    );
+    Tables {
+        trees: root(1, 512, &[1; 512]),
+        jobs,
+    }
 }
 
 // "the result exceeds .. 512 runs": a view's job brings a run more, a run's job does not.
 fn one_run_more(rt: &impl Print) -> io::Result<()> {
-    let trees = root(1, 512, &[1; 512]);
-    let views = add_job(no_jobs(), 1, 0, 0, 0, 513, &[0], &[0], &[0, 1]);
-    let jobs = add_job(views, 2, 0, 0, 0, 512, &[1], &[512], &[0; 2]);
-    call(rt, b"512 runs: finish view 1 to 513", b"refused 14")?;
-    let refused = finish_job(rt, Tables { trees, jobs }, 1, 513, 1)?;
-    let full = refused.trees;
-    let unfinished = refused.jobs;
-    show_tree(
+    let mut tables = full_root();
+    call(
         rt,
-        b"prefix 0, L0 1 (1); runs 512 (1) .. 1 (1), 512 in all; watermark none",
-        full,
+        "512 runs: finish view 1 to 513",
+        "refused 14",
+        &tables.finish(1, 513, 1),
+    )?;
+    tables.show(
+        rt,
+        &["prefix 0, L0 1 (1); runs 512 (1) .. 1 (1), 512 in all; watermark none"],
+        "1 Submitted: prefix 0, view 1 to 513",
         0,
     )?;
-    show_job(rt, b"1 Submitted: prefix 0, view 1 to 513", unfinished, 0)?;
-    call(rt, b"512 runs: finish 512 to 512", b"committed")?;
-    let committed = finish_job(rt, refused, 2, 512, 9)?;
-    let same = committed.trees;
-    show_tree(
+    call(
         rt,
-        b"prefix 0, L0 1 (1); runs 512 (9) .. 1 (1), 512 in all; watermark none",
-        same,
-        0,
+        "512 runs: finish 512 to 512",
+        "committed",
+        &tables.finish(2, 512, 9),
+    )?;
+    show_trees(
+        rt,
+        &["prefix 0, L0 1 (1); runs 512 (9) .. 1 (1), 512 in all; watermark none"],
+        &tables.trees,
     )
 }
 
 pub fn refusals(rt: &impl Print) -> io::Result<()> {
-    heading(
-        rt,
-        b"Finish and drain: refusals, a missing segment, a drain",
-    )?;
-    let jobs = four_jobs();
-    let after = refused_finishes(
-        rt,
-        Tables {
-            trees: cabinet(),
-            jobs,
-        },
-    )?;
-    show_unchanged(rt, after)?;
-    drained(rt, missing_segment(rt, after)?)?;
+    heading(rt, "Finish and drain: refusals, a missing segment, a drain")?;
+    let mut tables = Tables {
+        trees: cabinet(),
+        jobs: four_jobs(),
+    };
+    refused_finishes(rt, &mut tables)?;
+    show_unchanged(rt, "3 Submitted: prefix 5, 21 to 21", &tables)?;
+    missing_segment(rt, &mut tables)?;
+    drained(rt, &mut tables)?;
     one_run_more(rt)
 }

@@ -1,131 +1,141 @@
 // Trees as text: each row and run with its size in brackets.
-use crate::print::{id, number, row, text};
+use crate::show::row;
 use lent::trees::Trees;
-use rows::bounds::{column_sum, wide};
-use std::io;
+use rows::bounds::column_sum;
+use std::{fmt, io};
 
-fn show_size(rt: &impl Print, n: u64) -> io::Result<()> {
-    text(rt, b" (")?;
-    number(rt, n)?;
-    text(rt, b")")
+// Of each L0 row the low word of its view.
+#[derive(Clone, Copy)]
+struct Views<'a> {
+    ids: &'a [u64],
+    sizes: &'a [u64],
 }
 
-fn show_view(rt: &impl Print, ids: &[u64; 2048], sizes: &[u64; 512], i: usize) -> io::Result<()> {
-    if i >= 512 {
-        return Ok(());
+impl fmt::Display for Views<'_> {
+    fn fmt<W: fmt::Write>(&self, f: &mut fmt::Formatter<W>) -> fmt::Result {
+        if self.sizes.is_empty() {
+            return write!(f, " none");
+        }
+        for (view, size) in self.ids.iter().skip(1).step_by(4).zip(self.sizes) {
+            write!(f, " {view} ({size})")?;
+        }
+        Ok(())
     }
-    text(rt, b" ")?;
-    number(rt, ids[4 * i + 1])?;
-    show_size(rt, sizes[i])
 }
 
-fn show_run(rt: &impl Print, ids: &[u32; 512], sizes: &[u64; 512], i: usize) -> io::Result<()> {
-    if i >= 512 {
-        return Ok(());
-    }
-    text(rt, b" ")?;
-    id(rt, ids[i])?;
-    show_size(rt, sizes[i])
+// Of more than four runs only the first and the last, and their number.
+#[derive(Clone, Copy)]
+struct Runs<'a> {
+    ids: &'a [u32],
+    sizes: &'a [u64],
 }
 
-// The L0 rows at places `at` to `at + n`.
-fn show_l0(
-    rt: &impl Print,
-    ids: &[u64; 2048],
-    sizes: &[u64; 512],
-    at: usize,
-    n: usize,
-) -> io::Result<()> {
-    if at > 512 {
-        return Ok(());
+impl fmt::Display for Runs<'_> {
+    fn fmt<W: fmt::Write>(&self, f: &mut fmt::Formatter<W>) -> fmt::Result {
+        let n = self.ids.len();
+        if n == 0 {
+            return write!(f, " none");
+        }
+        if let ([first, .., last], [first_size, .., last_size]) = (self.ids, self.sizes)
+            && n > 4
+        {
+            return write!(
+                f,
+                " {first} ({first_size}) .. {last} ({last_size}), {n} in all"
+            );
+        }
+        for (run, size) in self.ids.iter().zip(self.sizes) {
+            write!(f, " {run} ({size})")?;
+        }
+        Ok(())
     }
-    if n > 512 {
-        return Ok(());
+}
+
+// The low words of the view and of the SST, where they are present.
+#[derive(Clone, Copy)]
+struct Watermark {
+    view: Option<u64>,
+    sst: Option<u64>,
+}
+
+impl fmt::Display for Watermark {
+    fn fmt<W: fmt::Write>(&self, f: &mut fmt::Formatter<W>) -> fmt::Result {
+        match self.view {
+            Some(view) => write!(f, " view {view}")?,
+            None => write!(f, " none")?,
+        }
+        match self.sst {
+            Some(sst) => write!(f, " SST {sst}"),
+            None => Ok(()),
+        }
     }
-    if n == 0 {
-        text(rt, b" none")?;
+}
+
+#[derive(Clone, Copy)]
+struct Tree<'a> {
+    prefix: u32,
+    l0: Views<'a>,
+    runs: Runs<'a>,
+    watermark: Watermark,
+}
+
+impl fmt::Display for Tree<'_> {
+    fn fmt<W: fmt::Write>(&self, f: &mut fmt::Formatter<W>) -> fmt::Result {
+        write!(f, "prefix {}, L0{}", self.prefix, self.l0)?;
+        write!(f, "; runs{}; watermark{}", self.runs, self.watermark)
     }
-    for i in at..at + n {
-        show_view(rt, ids, sizes, i)?;
+}
+
+fn present(mark: u8, word: u64) -> Option<u64> {
+    if mark == 1 { Some(word) } else { None }
+}
+
+// So many rows of `width` places each, from row `at` on, if there are.
+fn part<T>(slice: &[T], width: usize, at: usize, n: usize) -> Option<&[T]> {
+    let from = at.checked_mul(width)?;
+    slice.get(from..from.checked_add(n.checked_mul(width)?)?)
+}
+
+// Tree t, whose rows and runs stand behind those of the trees before it.
+fn tree_of(trees: &Trees, t: usize) -> Option<Tree<'_>> {
+    if t >= 32 {
+        return None;
+    }
+    let first_row = column_sum(&trees.rows, 1, t);
+    let rows = trees.rows[3 * t + 1] as usize;
+    let first_run = column_sum(&trees.rows, 2, t);
+    let runs = trees.rows[3 * t + 2] as usize;
+    Some(Tree {
+        prefix: trees.rows[3 * t],
+        l0: Views {
+            ids: part(&trees.l0_ids, 4, first_row, rows)?,
+            sizes: part(&trees.l0_sizes, 1, first_row, rows)?,
+        },
+        runs: Runs {
+            ids: part(&trees.run_ids, 1, first_run, runs)?,
+            sizes: part(&trees.run_sizes, 1, first_run, runs)?,
+        },
+        watermark: Watermark {
+            view: present(trees.watermark_marks[2 * t], trees.watermarks[4 * t + 1]),
+            sst: present(
+                trees.watermark_marks[2 * t + 1],
+                trees.watermarks[4 * t + 3],
+            ),
+        },
+    })
+}
+
+// The first trees, each behind what 01 says of it.
+pub fn show_trees(rt: &impl Print, expected: &[&str], trees: &Trees) -> io::Result<()> {
+    for (t, tree) in expected.iter().enumerate() {
+        show_tree(rt, *tree, trees, t)?;
     }
     Ok(())
 }
 
-// The runs at places `at` to `at + n`; of more than four only their number, the first and the last.
-fn show_runs(
-    rt: &impl Print,
-    ids: &[u32; 512],
-    sizes: &[u64; 512],
-    at: usize,
-    n: usize,
-) -> io::Result<()> {
-    if at > 512 {
-        return Ok(());
+fn show_tree(rt: &impl Print, expected: &str, trees: &Trees, t: usize) -> io::Result<()> {
+    match tree_of(trees, t) {
+        Some(tree) => row(rt, expected, &tree),
+        None => row(rt, expected, &"no tree"),
     }
-    if n > 512 {
-        return Ok(());
-    }
-    if n == 0 {
-        text(rt, b" none")?;
-    }
-    if n > 4 {
-        show_run(rt, ids, sizes, at)?;
-        text(rt, b" ..")?;
-        show_run(rt, ids, sizes, at + n - 1)?;
-        text(rt, b", ")?;
-        number(rt, n as u64)?;
-        text(rt, b" in all")?;
-        return Ok(());
-    }
-    for i in at..at + n {
-        show_run(rt, ids, sizes, i)?;
-    }
-    Ok(())
-}
-
-fn show_watermark(
-    rt: &impl Print,
-    marks: &[u8; 64],
-    words: &[u64; 128],
-    t: usize,
-) -> io::Result<()> {
-    if t >= 32 {
-        return Ok(());
-    }
-    text(rt, b"; watermark")?;
-    if marks[2 * t] == 1 {
-        text(rt, b" view ")?;
-        number(rt, words[4 * t + 1])?;
-    } else {
-        text(rt, b" none")?;
-    }
-    if marks[2 * t + 1] == 1 {
-        text(rt, b" SST ")?;
-        number(rt, words[4 * t + 3])?;
-    }
-    text(rt, b"\n")
-}
-
-// Tree t, behind what 01 says of it.
-pub fn show_tree(rt: &impl Print, expected: &[u8], trees: Trees, t: usize) -> io::Result<()> {
-    row(rt, expected)?;
-    if t >= 32 {
-        return Ok(());
-    }
-    let rows = trees.rows;
-    let l0_ids = trees.l0_ids;
-    let l0_sizes = trees.l0_sizes;
-    let run_ids = trees.run_ids;
-    let run_sizes = trees.run_sizes;
-    let watermark_marks = trees.watermark_marks;
-    let watermarks = trees.watermarks;
-    text(rt, b"prefix ")?;
-    id(rt, rows[3 * t])?;
-    text(rt, b", L0")?;
-    let first_row = column_sum(&rows, 1, t);
-    show_l0(rt, &l0_ids, &l0_sizes, first_row, wide(rows[3 * t + 1]))?;
-    text(rt, b"; runs")?;
-    let first_run = column_sum(&rows, 2, t);
-    show_runs(rt, &run_ids, &run_sizes, first_run, wide(rows[3 * t + 2]))?;
-    show_watermark(rt, &watermark_marks, &watermarks, t)
 }

@@ -1,68 +1,36 @@
 // Document 01's figures of validation.
 use crate::cabinet::cabinet;
-use crate::plan_text::show_validation;
+use crate::plan_calls::show_validation;
+use crate::sources::{SourceTable, run, view};
+use rules::tables::{Kind, SourceId};
+use size_tiered_compaction::validate::Spec;
 use std::io;
 
 // Of a tiered spec on the cabinet's root.
 fn on_root(
     rt: &impl Print,
-    said: &[u8],
-    expected: &[u8],
+    said: &str,
+    expected: &str,
     destination: u32,
-    marks: &[u8],
-    runs: &[u32],
-    views: &[u64],
+    sources: &[SourceId],
 ) -> io::Result<()> {
-    show_validation(
-        rt,
-        said,
-        expected,
-        cabinet(),
-        0,
-        0,
+    let table = SourceTable::of(sources);
+    let spec = Spec {
+        drain: Kind::Tiered as u8,
+        prefix: 0,
         destination,
-        marks,
-        runs,
-        views,
-    )
+        sources: table.lent(),
+    };
+    show_validation(rt, said, expected, &cabinet(), &spec)
 }
 
 // "On that root: d, 12 to 12 accepted; to 11 refused 9; b, d refused 8; c, d to 11 accepted."
 pub fn validation(rt: &impl Print) -> io::Result<()> {
-    on_root(
-        rt,
-        b"validate d, 12 to 12",
-        b"accepted",
-        12,
-        &[0, 1],
-        &[0, 12],
-        &[0, 4, 0, 0],
-    )?;
-    on_root(
-        rt,
-        b"validate d, 12 to 11",
-        b"refused 9",
-        11,
-        &[0, 1],
-        &[0, 12],
-        &[0, 4, 0, 0],
-    )?;
-    on_root(
-        rt,
-        b"validate b, d to 13",
-        b"refused 8",
-        13,
-        &[0; 2],
-        &[0; 2],
-        &[0, 2, 0, 4],
-    )?;
-    on_root(
-        rt,
-        b"validate c, d to 11",
-        b"accepted",
-        11,
-        &[0; 2],
-        &[0; 2],
-        &[0, 3, 0, 4],
-    )
+    let d_and_12 = [view(4), run(12)];
+    on_root(rt, "validate d, 12 to 12", "accepted", 12, &d_and_12)?;
+    on_root(rt, "validate d, 12 to 11", "refused 9", 11, &d_and_12)?;
+    let b_and_d = [view(2), view(4)];
+    on_root(rt, "validate b, d to 13", "refused 8", 13, &b_and_d)?;
+    let c_and_d = [view(3), view(4)];
+    on_root(rt, "validate c, d to 11", "accepted", 11, &c_and_d)
 }

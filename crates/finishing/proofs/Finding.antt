@@ -1,15 +1,23 @@
 -- What finish and drain find: the job and its tree, and which rows go.
 use Prim.Native.Nat.{ℕ, ◌+◌, ◌-◌, ◌*◌, ◌≤◌, ◌<◌}
 use mathlib.Core.Path.{◌≡◌, refl, sym, ap, ◌∙◌}
-use mathlib.Core.List.{List, [], ◌∷◌}
-use mathlib.Core.Bool.{Bool, true, false, cond, ◌&&◌, ◌||◌, not}
+use mathlib.Core.List.{List, [], ◌∷◌, ◌++◌, append-nil}
+use mathlib.Core.Bool.{Bool, true, false, ◌&&◌, ◌||◌, not}
 use native.Mathlib.Omega.{arith}
 use lib.Dec.{eqb, leb}
 use lib.ListN.{length, get_or, set}
 use lib.Seq.{paste}
-use borrow.Author.Tests.{eq-eqb, ne_eqb, leb-true}
+use borrow.Author.Tests.{eqb-true, eqb-false, eq-eqb, ne_eqb, leb-true}
 use Rattle.rules.specs.Lists.{any, all, leading, linked}
-use Rattle.rules.specs.Tables.{Ulid, same_ulid, ulid_below, SourceId, sorted_run, same_id, among}
+use Rattle.rules.specs.declared.tables.Ulid.{Ulid}
+use Rattle.rules.specs.declared.tables.SourceId.{SourceId}
+use Rattle.rules.specs.declared.tables.SourceId.TheVariants.{SortedRun, SstView}
+use Rattle.rules.specs.contracts.tables.SourceIdPartialEq.TheImpl.{ghosts}
+use Rattle.rules.specs.declared.tables.Source.{Source}
+use Rattle.rules.specs.declared.tables.Kind.{Kind}
+use Rattle.rules.specs.declared.tables.Kind.TheVariants.{Tiered, Drain}
+use Rattle.rules.specs.contracts.tables.KindPartialEq.TheImpl.{ghosts as kinds}
+use Rattle.rules.specs.Tables.{same_ulid, ulid_below, same_id, id_of, among, mark_of}
 use Rattle.rules.specs.Lent.{LentTrees, LentJobs, rows_from, ulid_at, jobs_of, job_at}
 use Rattle.rules.specs.Bounds.{is_mark, good_sources, good_job, good_jobs}
 use Rattle.rules.specs.Finish.{finish_job_refusal, drain_job_refusal}
@@ -20,8 +28,28 @@ use Rattle.rules.proofs.Packed.{length-jobs_of, job_is}
 use Rattle.rows.proofs.Finds.{Sought, seek-starts-at}
 use Rattle.rows.proofs.Scans.{Left}
 use Rattle.rows.proofs.Paste.{Pasted, pasted-none, pasted-more, pasted-all}
-use Rattle.rows.proofs.Found.{job-found, job-missing, tree-found}
-use Rattle.finishing.specs.Finding.{NoWork, JobFound, TreeFound, job_in, gone_with}
+use Rattle.rows.specs.Found.{place_of}
+use Rattle.rows.proofs.Found.{job-found, job-missing, tree-found, tree-missing}
+use Rattle.std.specs.Prelude.{IfSome}
+use Rattle.std.specs.declared.option.Option.{Option}
+use Rattle.std.specs.declared.option.Option.TheVariants.{None, Some}
+use Rattle.finishing.specs.Finding.{NoWork, JobFound, TreeOrNone, job_in, gone_with, gone_beside}
+
+-- ---- kinds
+
+-- the derived equality of kinds is that of their marks
+same-kind : (a b : Kind) → kinds.eq a b ≡ eqb (mark_of a) (mark_of b)
+same-kind Tiered Tiered = refl
+same-kind Tiered Drain = refl
+same-kind Drain Tiered = refl
+same-kind Drain Drain = refl
+
+module _ (a b : Kind) {same : Bool} (e : same ≡ kinds.eq a b) where
+  pub of-kind : same ≡ true → mark_of a ≡ mark_of b
+  of-kind h = eqb-true (mark_of a) (mark_of b) (sym (same-kind a b) ∙ sym e ∙ h)
+
+  pub not-of-kind : same ≡ false → mark_of a ≡ mark_of b → ⊥
+  not-of-kind h = eqb-false (mark_of a) (mark_of b) (sym (same-kind a b) ∙ sym e ∙ h)
 
 -- ---- the job
 
@@ -36,7 +64,7 @@ mark-small j h i l =
     (and_right (leb (get_or j.job_marks (2 * i) 0) 5) (is_mark (get_or j.job_marks (2 * i + 1) 0))
     (and_left (leb (get_or j.job_marks (2 * i) 0) 5 && is_mark (get_or j.job_marks (2 * i + 1) 0)) (good_sources (job_in j i).sources) good))
 
-module _ (t : LentTrees) (j : LentJobs) (u : Ulid) (kind i : ℕ) (place : i ≡ leading (λ v. not (same_ulid v u)) (rows_from (λ k. ulid_at j.job_ids (2 * k)) 0 j.count)) where
+module _ (t : LentTrees) (j : LentJobs) (u : Ulid) (kind : ℕ) {i : ℕ} (place : i ≡ leading (λ v. not (same_ulid v u)) (rows_from (λ k. ulid_at j.job_ids (2 * k)) 0 j.count)) where
   -- 11: "no job with that id"
   pub no-job : j.count ≤ i → NoWork t j u kind 11
   unfolding finish_job_refusal drain_job_refusal
@@ -71,9 +99,10 @@ module _ (t : LentTrees) (j : LentJobs) (u : Ulid) (kind i : ℕ) (place : i ≡
     pub the-job : get_or j.job_marks (2 * i + 1) 0 ≡ kind → (kind ≡ 0 → get_or j.job_specs (3 * i + 2) 0 ≡ 0 → ⊥) → JobFound j u kind i
     the-job m s = record { place = h; job = job-found j u i place h; kind = m; sources = s }
 
--- the tree of its prefix
-pub the-tree : (t : LentTrees) (prefix i : ℕ) → i ≡ leading (λ p. not (eqb p prefix)) (rows_from (λ k. get_or t.trees (3 * k) 0) 0 t.count) → i < t.count → TreeFound t prefix i
-the-tree t prefix i e h = record { place = h; tree = tree-found t prefix i e h }
+-- the tree of its prefix, if there is one
+pub the-tree : (t : LentTrees) (prefix : ℕ) (i : Option ℕ) → place_of t.count i ≡ leading (λ p. not (eqb p prefix)) (rows_from (λ k. get_or t.trees (3 * k) 0) 0 t.count) → IfSome i (λ k. k < t.count) → TreeOrNone t prefix i
+the-tree t prefix None e h = tree-missing t prefix t.count e (omega arith)
+the-tree t prefix (Some i) e h = record { place = h; tree = tree-found t prefix i e h }
 
 -- ---- loops over n rows from row a on
 
@@ -89,28 +118,39 @@ module _ {A : Type 0} {f : ℕ → A} (a n : ℕ) where
 
 -- ---- the rows that go
 
-module _ (run : ℕ) (drain destination : ℕ) (names : List SourceId) where
-  abbrev own : List SourceId
-  own = cond (eqb drain 1) [] (sorted_run destination ∷ [])
+-- the derived equality of what sources name
+eq-same : (x y : SourceId) → ghosts.eq x y ≡ same_id x y
+eq-same (SortedRun a) (SortedRun b) = refl
+eq-same (SortedRun a) (SstView v) = refl
+eq-same (SstView u) (SortedRun b) = refl
+eq-same (SstView u) (SstView v) = refl
 
-  both : among (sorted_run run) (gone_with drain destination names) ≡ among (sorted_run run) names || among (sorted_run run) own
-  both = any_append (λ y. same_id y (sorted_run run)) names own
+-- what the code compares of an entry is what the entry names
+pub entry-same : (u : SourceId) {x y : Source} {z : SourceId} {b : Bool} → x ≡ y → z ≡ id_of x → b ≡ ghosts.eq z u → same_id (id_of y) u ≡ b
+entry-same u {z = z} e f h = ap (λ (w : Source). same_id (id_of w) u) (sym e) ∙ ap (λ (w : SourceId). same_id w u) (sym f) ∙ sym (h ∙ eq-same z u)
 
-  pub goes-source : among (sorted_run run) names ≡ true → true ≡ among (sorted_run run) (gone_with drain destination names)
-  goes-source e = sym (both ∙ rw e)
-
-  -- of a drain the sources alone
-  pub goes-drain : among (sorted_run run) names ≡ false → drain ≡ 1 → false ≡ among (sorted_run run) (gone_with drain destination names)
+module _ (run : ℕ) (names : List SourceId) where
+  both : (destination : ℕ) → among (SortedRun run) (names ++ (SortedRun destination ∷ [])) ≡ among (SortedRun run) names || (eqb destination run || false)
   unfolding any
-  goes-drain e d = sym (both ∙ rw (e, eq-eqb drain 1 d))
+  both destination = any_append (λ y. same_id y (SortedRun run)) names (SortedRun destination ∷ [])
 
-  pub goes-tiered : among (sorted_run run) names ≡ false → (drain ≡ 1 → ⊥) → eqb destination run ≡ among (sorted_run run) (gone_with drain destination names)
-  unfolding any
-  goes-tiered e d = sym (both ∙ rw (e, ne_eqb drain 1 d) (last (eqb destination run)))
+  pub goes-source : (destination : Option ℕ) → among (SortedRun run) names ≡ true → true ≡ among (SortedRun run) (gone_beside destination names)
+  goes-source None e = sym e
+  goes-source (Some d) e = sym (both d ∙ rw e)
+
+  pub goes-tiered : (destination : ℕ) → among (SortedRun run) names ≡ false → eqb destination run ≡ among (SortedRun run) (names ++ (SortedRun destination ∷ []))
+  goes-tiered destination e = sym (both destination ∙ rw e (last (eqb destination run)))
     where
       last : (b : Bool) → b || false ≡ b
       last true = refl
       last false = refl
+
+-- of a drain and of a tiered job
+pub beside-drain : (drain destination : ℕ) → drain ≡ 1 → (names : List SourceId) → gone_beside None names ≡ gone_with drain destination names
+beside-drain drain destination e names = sym (rw (eq-eqb drain 1 e) (append-nil names))
+
+pub beside-tiered : (drain destination : ℕ) → (drain ≡ 1 → ⊥) → (names : List SourceId) → gone_beside (Some destination) names ≡ gone_with drain destination names
+beside-tiered drain destination n names = rw (ne_eqb drain 1 n)
 
 -- the loop that writes the flags of n rows from row a on: k of them are written
 pub record Flagging (l : List ℕ) (g : ℕ → ℕ) (a n : ℕ) (now : List ℕ) (k : ℕ) : Type 0 where
@@ -121,7 +161,7 @@ module _ {l : List ℕ} {g : ℕ → ℕ} {a n : ℕ} where
   flags-start h = record { pasted = pasted-none (omega (arith, length-rows_from g a n)) h }
 
   pub flags-next : {now : List ℕ} {k v : ℕ} → Flagging l g a n now k → k < n → v ≡ g (a + k) → Flagging l g a n (set now (a + k) v) (k + 1)
-  flags-next f h e = record { pasted = pasted-more f.pasted h (e ∙ sym (get_or-rows_from g a n _ 0 h)) }
+  flags-next f h e = record { pasted = pasted-more 0 f.pasted h (e ∙ sym (get_or-rows_from g a n _ 0 h)) }
 
   pub flags-end : {now : List ℕ} {k : ℕ} → Flagging l g a n now k → n ≤ k → now ≡ paste l a (rows_from g a n) n
   flags-end f h = pasted-all f.pasted h

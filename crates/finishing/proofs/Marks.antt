@@ -10,15 +10,16 @@ use lib.Dec.{eqb}
 use lib.ListN.{length, get_or}
 use borrow.Author.Tests.{eq-eqb, ne_eqb}
 use Rattle.rules.specs.Lists.{leading, keep}
-use Rattle.rules.specs.Tables.{Ulid, same_ulid, L0Row, Tree}
+use Rattle.rules.specs.declared.tables.Ulid.{Ulid}
+use Rattle.rules.specs.Tables.{same_ulid, L0Row, Tree}
 use Rattle.rules.specs.Lent.{LentTrees, rows_from, ulid_at, l0_at}
 use Rattle.rules.specs.Finish.{absent, row_of_view, mark_at, finish_mark, drain_mark}
 use Rattle.rules.proofs.Rows.{length-rows_from, get_or-rows_from, map-rows_from}
 use Rattle.rules.proofs.Lookups.{leading-found, leading-none}
-use Rattle.rules.proofs.Records.{ulid-eq, watermark-eq}
 use Rattle.rows.specs.Movers.{marked}
 use Rattle.rows.proofs.Found.{leading-map}
-use Rattle.finishing.specs.Finding.{names_in}
+use Rattle.rules.specs.declared.tables.SourceId.{SourceId}
+use Rattle.rules.specs.declared.tables.SourceId.TheVariants.{SstView}
 
 -- a flag that is not 0
 pub marked-is : (m : ℕ) → marked m ≡ not (eqb m 0)
@@ -51,33 +52,19 @@ module _ (t : LentTrees) (u : Ulid) (first rows m : ℕ) (place : m ≡ leading 
   view-gone : rows ≤ m → row_of_view u (rows_from (l0_at t) first rows) ≡ none
   view-gone h = leading-none (λ (v : L0Row). same_ulid v.view u) (rows_from (l0_at t) first rows) (omega (arith, length-rows_from (l0_at t) first rows, among-rows))
 
--- ---- finish
+-- ---- finish: the first source is a view
 
-module _ (marks runs views : List ℕ) (from n : ℕ) (x : Tree) where
-  -- the first source is a run
-  pub mark-stays : get_or marks from 0 ≡ 1 → finish_mark (names_in marks runs views from (suc n)) x ≡ x.watermark
-  unfolding rows_from
-  mark-stays e = rw (eq-eqb (get_or marks from 0) 1 e)
+module _ (u : Ulid) (others : List SourceId) (x : Tree) (t : LentTrees) (first rows m : ℕ) (own : x.l0 ≡ rows_from (l0_at t) first rows) (place : m ≡ leading (λ v. not (same_ulid v u)) (rows_from (λ k. ulid_at t.l0_ids (4 * k)) first (first + rows - first))) where
+  within : m ≡ leading (λ v. not (same_ulid v u)) (rows_from (λ k. ulid_at t.l0_ids (4 * k)) first rows)
+  within = place ∙ ap (λ (k : ℕ). leading (λ v. not (same_ulid v u)) (rows_from (λ k. ulid_at t.l0_ids (4 * k)) first k)) (omega arith)
 
-  -- it is a view
-  view_first : (get_or marks from 0 ≡ 1 → ⊥) → finish_mark (names_in marks runs views from (suc n)) x ≡ mark_at (ulid_at views (2 * from)) (row_of_view (ulid_at views (2 * from)) x.l0)
-  unfolding rows_from
-  view_first e = rw (ne_eqb (get_or marks from 0) 1 e)
+  -- "and its SST id if the view is still there"
+  pub mark-there : m < rows → record { view_mark = 1; sst_mark = 1; view = u; sst = ulid_at t.l0_ids (4 * (first + m) + 2) } ≡ finish_mark (SstView u ∷ others) x
+  mark-there h = sym (ap (λ (vs : List L0Row). mark_at u (row_of_view u vs)) own ∙ ap (mark_at u) (view-there t u first rows m within h))
 
-  module _ (e : get_or marks from 0 ≡ 1 → ⊥) (t : LentTrees) (first rows m : ℕ) (own : x.l0 ≡ rows_from (l0_at t) first rows) (place : m ≡ leading (λ v. not (same_ulid v (ulid_at views (2 * from)))) (rows_from (λ k. ulid_at t.l0_ids (4 * k)) first (first + rows - first))) where
-    within : m ≡ leading (λ v. not (same_ulid v (ulid_at views (2 * from)))) (rows_from (λ k. ulid_at t.l0_ids (4 * k)) first rows)
-    within = place ∙ ap (λ (k : ℕ). leading (λ v. not (same_ulid v (ulid_at views (2 * from)))) (rows_from (λ k. ulid_at t.l0_ids (4 * k)) first k)) (omega arith)
-
-    -- "and its SST id if the view is still there"
-    pub mark-there : m < rows → record { view_mark = 1; sst_mark = 1; view = ulid_at views (2 * from); sst = record { high = get_or t.l0_ids (4 * (first + m) + 2) 0; low = get_or t.l0_ids (4 * (first + m) + 3) 0 } } ≡ finish_mark (names_in marks runs views from (suc n)) x
-    mark-there h =
-        watermark-eq refl refl refl (ulid-eq refl (ap (λ (k : ℕ). get_or t.l0_ids k 0) (omega arith)))
-        ∙ sym (view_first e ∙ ap (λ (vs : List L0Row). mark_at (ulid_at views (2 * from)) (row_of_view (ulid_at views (2 * from)) vs)) own ∙ ap (mark_at (ulid_at views (2 * from))) (view-there t (ulid_at views (2 * from)) first rows m within (omega arith)))
-
-    -- "else absent"
-    pub mark-absent : rows ≤ m → record { view_mark = 1; sst_mark = 0; view = ulid_at views (2 * from); sst = absent } ≡ finish_mark (names_in marks runs views from (suc n)) x
-    mark-absent h =
-        sym (view_first e ∙ ap (λ (vs : List L0Row). mark_at (ulid_at views (2 * from)) (row_of_view (ulid_at views (2 * from)) vs)) own ∙ ap (mark_at (ulid_at views (2 * from))) (view-gone t (ulid_at views (2 * from)) first rows m within (omega arith)))
+  -- "else absent"
+  pub mark-absent : rows ≤ m → record { view_mark = 1; sst_mark = 0; view = u; sst = absent } ≡ finish_mark (SstView u ∷ others) x
+  mark-absent h = sym (ap (λ (vs : List L0Row). mark_at u (row_of_view u vs)) own ∙ ap (mark_at u) (view-gone t u first rows m within h))
 
 -- ---- drain
 
@@ -107,10 +94,9 @@ module _ (t : LentTrees) (x : Tree) (p : L0Row → Bool) (kept : List ℕ) (firs
   by_row : m ≡ leading (λ v. not (p v)) (rows_from (l0_at t) first rows)
   by_row = place ∙ leading-same (λ f. not (eqb f 0)) (λ v. not (p v)) (λ k. get_or kept k 0) (l0_at t) first first rows (λ k h. sym (marked-is (get_or kept (first + k) 0)) ∙ says k h)
 
-  pub drain-there : m < rows → record { view_mark = 1; sst_mark = 1; view = ulid_at t.l0_ids (4 * (first + m)); sst = record { high = get_or t.l0_ids (4 * (first + m) + 2) 0; low = get_or t.l0_ids (4 * (first + m) + 3) 0 } } ≡ drain_mark (keep p (rows_from (l0_at t) first rows)) x
+  pub drain-there : m < rows → record { view_mark = 1; sst_mark = 1; view = ulid_at t.l0_ids (4 * (first + m)); sst = ulid_at t.l0_ids (4 * (first + m) + 2) } ≡ drain_mark (keep p (rows_from (l0_at t) first rows)) x
   drain-there h =
-      watermark-eq refl refl refl (ulid-eq refl (ap (λ (k : ℕ). get_or t.l0_ids k 0) (omega arith)))
-      ∙ ap (λ (v : L0Row). mark_at v.view (some v)) (sym (ap (λ (k : ℕ). get_or (rows_from (l0_at t) first rows) k (l0_at t 0)) (sym by_row) ∙ get_or-rows_from (l0_at t) first rows m (l0_at t 0) h))
+      ap (λ (v : L0Row). mark_at v.view (some v)) (sym (ap (λ (k : ℕ). get_or (rows_from (l0_at t) first rows) k (l0_at t 0)) (sym by_row) ∙ get_or-rows_from (l0_at t) first rows m (l0_at t 0) h))
       ∙ sym (first-source p (l0_at t 0) x (rows_from (l0_at t) first rows) (omega (arith, length-rows_from (l0_at t) first rows, by_row)))
 
   pub drain-stays : rows ≤ m → x.watermark ≡ drain_mark (keep p (rows_from (l0_at t) first rows)) x

@@ -7,13 +7,18 @@ use native.Mathlib.Omega.{arith}
 use lib.ListN.{length, get_or, take, drop, replicate, length-replicate, get_or-replicate, get_or-append}
 use lib.Seq.{paste, length-paste, length_paste_head, length-take-le, get_or-append-add, get_or-take, get_or-drop}
 use Rattle.rules.specs.Lists.{total}
-use Rattle.rules.specs.Tables.{SourceId, id_of, among, sorted_run, sst_view, view_id, run_id}
+use Rattle.rules.specs.declared.tables.SourceId.{SourceId}
+use Rattle.rules.specs.declared.tables.SourceId.TheVariants.{SortedRun, SstView}
+use Rattle.rules.specs.Tables.{id_of, among, view_id, run_id}
 use Rattle.rules.specs.Lent.{LentTrees, LentJobs, rows_from, ulid_at, l0_at, run_at, source_at, source_count, l0_used, runs_used}
 use Rattle.rules.specs.Bounds.{max_l0, max_runs}
 use Rattle.rules.specs.Finish.{named}
 use Rattle.rules.proofs.Rows.{length-rows_from, get_or-rows_from, map-rows_from}
 use Rattle.rows.specs.Movers.{marked}
 use Rattle.rows.specs.Read.{Stands, Entries}
+use Rattle.rows.specs.InSlices.{jobs_in}
+use Rattle.rows.specs.declared.jobs.Jobs.{Jobs}
+use Rattle.rows.specs.declared.read.JobRows.{JobRows}
 use Rattle.tree_rows.proofs.Flagged.{l0-flags, run-flags}
 use Rattle.finishing.specs.Finding.{job_in, names_in, gone_with, flag_of, SourceRoom}
 use Rattle.finishing.specs.Flagging.{TreeRoom, JobRoom, Unflagged, row_stays, run_stays, Flags}
@@ -89,45 +94,47 @@ names_of j i e =
     ∙ ap₂ (λ (a b : ℕ). names_in j.source_marks j.source_runs j.source_views a b) (sym e.first) (sym e.count)
 
 -- what flag_rows and flag_runs leave
-module _ (t : LentTrees) (j : LentJobs) (drain job tree : ℕ) (room : TreeRoom t.count t.trees t.l0_ids t.run_ids tree) {l0 runs : List ℕ} (ones : Unflagged l0 runs) {l c r d : ℕ} (at : Stands t.trees t.count tree l c r d) {s n : ℕ} (e : Entries j.job_specs j.count job s n) where
+module _ (t : LentTrees) (j : LentJobs) (drain job tree : ℕ) (room : TreeRoom t tree) {l0 runs : List ℕ} (ones : Unflagged l0 runs) {l c r d : ℕ} (at : Stands t.trees t.count tree l c r d) {s n : ℕ} (e : Entries j.job_specs j.count job s n) where
   abbrev names : List SourceId
   names = names_in j.source_marks j.source_runs j.source_views s n
 
   abbrev row_goes : ℕ → Bool
-  row_goes k = among (sst_view (ulid_at t.l0_ids (4 * k))) names
+  row_goes k = among (SstView (ulid_at t.l0_ids (4 * k))) names
 
-  abbrev run_goes : ℕ → Bool
-  run_goes k = among (sorted_run (get_or t.run_ids k 0)) (gone_with drain (get_or j.job_specs (3 * job + 1) 0) names)
+  -- the sources, and the destination of a tiered job
+  module _ (gone : List SourceId) (which : gone ≡ gone_with drain (get_or j.job_specs (3 * job + 1) 0) names) where
+    abbrev run_goes : ℕ → Bool
+    run_goes k = among (SortedRun (get_or t.run_ids k 0)) gone
 
-  pub flags-made : {l0_kept runs_kept : List ℕ} → l0_kept ≡ paste l0 l (rows_from (λ k. flag_of (row_goes k)) l c) c → runs_kept ≡ paste runs r (rows_from (λ k. flag_of (run_goes k)) r d) d → Flags t j drain job tree l0_kept runs_kept
-  unfolding l0_used runs_used
-  flags-made {l0_kept} {runs_kept} rows_made runs_made =
-      let fit_rows : l + c ≤ max_l0 = omega (arith, at.rows_within, room.l0) in
-      let fit_runs : r + d ≤ max_runs = omega (arith, at.runs_within, room.runs) in
-      let long : length l0_kept ≡ max_l0 = flags_long max_l0 row_goes l c fit_rows ones.l0 rows_made in
-      let runs_all : length runs_kept ≡ max_runs = flags_long max_runs run_goes r d fit_runs ones.runs runs_made in
-      let mine : (k : ℕ) → k < c → marked (get_or l0_kept (l + k) 0) ≡ row_stays j job (l0_at t (l + k)) = λ k h. stay-own max_l0 row_goes l c fit_rows ones.l0 rows_made k h ∙ ap (λ (xs : List SourceId). not (among (view_id (l0_at t (l + k))) xs)) (sym (names_of j job e)) in
-      record {
-        rows = l0-flags t tree room.tree at l0_kept (row_stays j job) (omega (arith, long, room.l0))
-            (stay-before max_l0 row_goes l c fit_rows ones.l0 rows_made) mine
-            (λ k h g. stay-behind max_l0 row_goes l c fit_rows ones.l0 rows_made k h (omega (arith, room.l0)));
-        runs = run-flags t tree room.tree at runs_kept (run_stays j drain job) (omega (arith, runs_all, room.runs))
-            (stay-before max_runs run_goes r d fit_runs ones.runs runs_made)
-            (λ k h. stay-own max_runs run_goes r d fit_runs ones.runs runs_made k h ∙ ap (λ (xs : List SourceId). not (among (run_id (run_at t (r + k))) (gone_with drain (job_in j job).destination xs))) (sym (names_of j job e)))
-            (λ k h g. stay-behind max_runs run_goes r d fit_runs ones.runs runs_made k h (omega (arith, room.runs)));
-        own = λ k h. rw (← at.first_row) (mine k (omega (arith, at.rows)));
-        l0_long = long;
-        runs_long = runs_all;
-      }
+    pub flags-made : {l0_kept runs_kept : List ℕ} → l0_kept ≡ paste l0 l (rows_from (λ k. flag_of (row_goes k)) l c) c → runs_kept ≡ paste runs r (rows_from (λ k. flag_of (run_goes k)) r d) d → Flags t j drain job tree l0_kept runs_kept
+    unfolding l0_used runs_used
+    flags-made {l0_kept} {runs_kept} rows_made runs_made =
+        let fit_rows : l + c ≤ max_l0 = omega (arith, at.rows_within, room.l0) in
+        let fit_runs : r + d ≤ max_runs = omega (arith, at.runs_within, room.runs) in
+        let long : length l0_kept ≡ max_l0 = flags_long max_l0 row_goes l c fit_rows ones.l0 rows_made in
+        let runs_all : length runs_kept ≡ max_runs = flags_long max_runs run_goes r d fit_runs ones.runs runs_made in
+        let mine : (k : ℕ) → k < c → marked (get_or l0_kept (l + k) 0) ≡ row_stays j job (l0_at t (l + k)) = λ k h. stay-own max_l0 row_goes l c fit_rows ones.l0 rows_made k h ∙ ap (λ (xs : List SourceId). not (among (view_id (l0_at t (l + k))) xs)) (sym (names_of j job e)) in
+        record {
+          rows = l0-flags t tree room.tree at l0_kept (row_stays j job) (omega (arith, long, room.l0))
+              (stay-before max_l0 row_goes l c fit_rows ones.l0 rows_made) mine
+              (λ k h g. stay-behind max_l0 row_goes l c fit_rows ones.l0 rows_made k h (omega (arith, room.l0)));
+          runs = run-flags t tree room.tree at runs_kept (run_stays j drain job) (omega (arith, runs_all, room.runs))
+              (stay-before max_runs run_goes r d fit_runs ones.runs runs_made)
+              (λ k h. stay-own max_runs run_goes r d fit_runs ones.runs runs_made k h ∙ ap (λ (xs : List SourceId). not (among (run_id (run_at t (r + k))) xs)) (which ∙ ap (gone_with drain (job_in j job).destination) (sym (names_of j job e))))
+              (λ k h g. stay-behind max_runs run_goes r d fit_runs ones.runs runs_made k h (omega (arith, room.runs)));
+          own = λ k h. rw (← at.first_row) (mine k (omega (arith, at.rows)));
+          l0_long = long;
+          runs_long = runs_all;
+        }
 
 -- ---- what the calls of flag_tree ask for
 
-pub sources-fit : {count : ℕ} {specs marks runs views : List ℕ} {job : ℕ} → JobRoom count specs marks runs views job → {s n : ℕ} → Entries specs count job s n → SourceRoom marks runs views s n
-sources-fit room e = record { marks = omega (arith, e.within, room.sources, room.marks); runs = omega (arith, e.within, room.sources, room.runs); views = omega (arith, e.within, room.sources, room.views) }
+pub sources-fit : (jobs : Jobs) {job : ℕ} → JobRoom (jobs_in jobs) job → {e : JobRows} → Entries jobs.specs.now jobs.count job e.first e.count → SourceRoom jobs.sources e
+sources-fit jobs room e = record { marks = omega (arith, e.within, room.sources, room.marks); runs = omega (arith, e.within, room.sources, room.runs); views = omega (arith, e.within, room.sources, room.views) }
 
-module _ {count : ℕ} {trees l0_ids run_ids : List ℕ} {tree : ℕ} (room : TreeRoom count trees l0_ids run_ids tree) {l c r d : ℕ} (at : Stands trees count tree l c r d) {l0 runs : List ℕ} (ones : Unflagged l0 runs) where
-  pub rows_fit : (4 * (l + c) ≤ length l0_ids) × (l + c ≤ length l0)
+module _ {t : LentTrees} {tree : ℕ} (room : TreeRoom t tree) {l c r d : ℕ} (at : Stands t.trees t.count tree l c r d) {l0 runs : List ℕ} (ones : Unflagged l0 runs) where
+  pub rows_fit : (4 * (l + c) ≤ length t.l0_ids) × (l + c ≤ length l0)
   rows_fit = (omega (arith, at.rows_within, room.l0, room.l0_ids), omega (arith, at.rows_within, room.l0, ap length ones.l0, length-replicate {A = ℕ} max_l0 1))
 
-  pub runs_fit : (r + d ≤ length run_ids) × (r + d ≤ length runs)
+  pub runs_fit : (r + d ≤ length t.run_ids) × (r + d ≤ length runs)
   runs_fit = (omega (arith, at.runs_within, room.runs, room.run_ids), omega (arith, at.runs_within, room.runs, ap length ones.runs, length-replicate {A = ℕ} max_runs 1))

@@ -1,7 +1,8 @@
 -- The flags of the rows that go with a job, and the slices that finding reads.
 use Rattle.std.specs.Prelude.{ℕ, ◌+◌, ◌*◌, ◌≤◌, ◌<◌, ◌≡◌, List, Bool, not, length, get_or, replicate}
 use Rattle.rules.specs.Lists.{total}
-use Rattle.rules.specs.Tables.{L0Row, Run, among, view_id, run_id}
+use Rattle.rules.specs.declared.tables.Run.{Run}
+use Rattle.rules.specs.Tables.{L0Row, among, view_id, run_id}
 use Rattle.rules.specs.Lent.{LentTrees, LentJobs, rows_from, l0_at, l0_count}
 use Rattle.rules.specs.Bounds.{max_trees, max_l0, max_runs, max_jobs, max_sources}
 use Rattle.rules.specs.Finish.{named}
@@ -11,24 +12,24 @@ use Rattle.tree_rows.specs.Slices.{rows_before, runs_before}
 use Rattle.finishing.specs.Finding.{job_in, gone_with}
 
 -- trees within their bounds, lent at capacity, with tree i among them
-pub record TreeRoom (count : ℕ) (trees' l0_ids' run_ids' : List ℕ) (i : ℕ) : Type 0 where
-  pub few : count ≤ max_trees
-  pub tree : i < count
-  pub trees : length trees' ≡ 3 * max_trees
-  pub l0_ids : length l0_ids' ≡ 4 * max_l0
-  pub run_ids : length run_ids' ≡ max_runs
-  pub l0 : rows_before trees' count ≤ max_l0
-  pub runs : runs_before trees' count ≤ max_runs
+pub record TreeRoom (t : LentTrees) (i : ℕ) : Type 0 where
+  pub few : t.count ≤ max_trees
+  pub tree : i < t.count
+  pub trees : length t.trees ≡ 3 * max_trees
+  pub l0_ids : length t.l0_ids ≡ 4 * max_l0
+  pub run_ids : length t.run_ids ≡ max_runs
+  pub l0 : rows_before t.trees t.count ≤ max_l0
+  pub runs : runs_before t.trees t.count ≤ max_runs
 
 -- jobs within their bounds, lent at capacity, with job i among them
-pub record JobRoom (count : ℕ) (job_specs' marks' runs' views' : List ℕ) (i : ℕ) : Type 0 where
-  pub few : count ≤ max_jobs
-  pub job : i < count
-  pub job_specs : length job_specs' ≡ 3 * max_jobs
-  pub marks : length marks' ≡ max_sources
-  pub runs : length runs' ≡ max_sources
-  pub views : length views' ≡ 2 * max_sources
-  pub sources : total (rows_from (λ k. get_or job_specs' (3 * k + 2) 0) 0 count) ≤ max_sources
+pub record JobRoom (j : LentJobs) (i : ℕ) : Type 0 where
+  pub few : j.count ≤ max_jobs
+  pub job : i < j.count
+  pub job_specs : length j.job_specs ≡ 3 * max_jobs
+  pub marks : length j.source_marks ≡ max_sources
+  pub runs : length j.source_runs ≡ max_sources
+  pub views : length j.source_views ≡ 2 * max_sources
+  pub sources : total (rows_from (λ k. get_or j.job_specs (3 * k + 2) 0) 0 j.count) ≤ max_sources
 
 -- the flags before any row goes
 pub record Unflagged (l0_kept runs_kept : List ℕ) : Type 0 where

@@ -1,13 +1,12 @@
--- Where a finish puts its output, and the watermark that it leaves, as the code finds them.
-use Rattle.std.specs.Prelude.{ℕ, ◌+◌, List, Bool, cond, ◌&&◌, not, eqb, leb, ltb, length, get_or, take, drop}
+-- Where a finish puts its output, as the code finds it.
+use Rattle.std.specs.Prelude.{ℕ, ◌+◌, List, Bool, cond, ◌&&◌, not, eqb, leb, ltb, length, get_or, take, drop, Result}
+use Rattle.std.specs.declared.result.Result.TheVariants.{Ok, Err}
 use Rattle.rules.specs.Lists.{leading, keep}
-use Rattle.rules.specs.Tables.{Watermark}
 use Rattle.rules.specs.Lent.{rows_from}
 use Rattle.rules.specs.Bounds.{max_runs}
 use Rattle.rows.specs.Movers.{marked}
-use Rattle.finishing.specs.declared.output.Place.{Place}
-use Rattle.finishing.specs.declared.output.Place.TheVariants.{Refused, At}
-use Rattle.finishing.specs.declared.watermarks.Mark.{Mark}
+use Rattle.rules.specs.declared.answers.Refusal.{Refusal}
+use Rattle.rules.specs.declared.answers.Refusal.TheVariants.{RunsOutOfOrder, TableFull}
 
 -- the first run in use of a number, if one has it
 abbrev pub run_of : List ℕ → ℕ → ℕ → ℕ
@@ -22,17 +21,8 @@ abbrev pub old_place : List ℕ → ℕ → ℕ → ℕ → ℕ
 old_place run_ids first runs n = leading (λ x. not (leb x n)) (rows_from (λ k. get_or run_ids k 0) first runs)
 
 -- 13, 14, or the place among the runs that stay
-unfoldable pub place_in : List ℕ → ℕ → ℕ → ℕ → List ℕ → ℕ → Place
+unfoldable pub place_in : List ℕ → ℕ → ℕ → ℕ → List ℕ → ℕ → Result ℕ Refusal
 place_in run_ids used first runs kept n =
-    cond (clash_in run_ids used kept n) (Refused 13)
-    (cond (leb max_runs (length (keep marked (take used kept)))) (Refused 14)
-    (At (first + length (keep marked (take (old_place run_ids first runs n) (drop first kept))))))
-
--- the code's watermark as a record of 01's tables
-abbrev pub mark_of : Mark → Watermark
-mark_of m = record {
-  view_mark = m.view_mark;
-  sst_mark = m.sst_mark;
-  view = record { high = m.view_high; low = m.view_low };
-  sst = record { high = m.sst_high; low = m.sst_low };
-}
+    cond (clash_in run_ids used kept n) (Err RunsOutOfOrder)
+    (cond (leb max_runs (length (keep marked (take used kept)))) (Err TableFull)
+    (Ok (first + length (keep marked (take (old_place run_ids first runs n) (drop first kept))))))

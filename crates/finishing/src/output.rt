@@ -4,9 +4,10 @@ ghost use Rattle.rules.specs.Lists.{leading};
 ghost use Rattle.rules.specs.Lent.{rows_from};
 ghost use Rattle.finishing.specs.Placing.{clash_in, place_in};
 
-use rows::bounds::wide;
-use rows::find::find_run;
+use rows::find::run_in;
+use rows::read::TreeRows;
 use rules::MAX_RUNS;
+use rules::answers::Refusal;
 use tree_rows::keep::count_kept;
 
 // Whether a run that stays has the output's number. No number is that of two runs, so only one can.
@@ -14,11 +15,10 @@ fn output_clashes(run_ids: &[u32], used: usize, kept: &[u8], output: u32) -> boo
     requires { (used ≤ length run_ids.now) × (used ≤ length kept.now) }
     ensures { result ≡ clash_in run_ids.now used kept.now output }
 {
-    let same = find_run(run_ids, 0, used, output);
-    if used <= same {
-        return false;
+    match run_in(run_ids, 0, used, output) {
+        Some(same) => kept[same] != 0,
+        None => false,
     }
-    kept[same] != 0
 }
 
 // "put the output before the first old run whose id is not above it, else last": how many of `runs` runs from run `first` on
@@ -27,43 +27,33 @@ fn output_place(run_ids: &[u32], first: usize, runs: usize, output: u32) -> usiz
     requires { first + runs ≤ length run_ids.now }
     ensures { result ≡ leading (λ x. not (leb x output)) (rows_from (λ k. get_or run_ids.now k 0) first runs) }
 {
-    let end = first + runs;
-    let mut i = first;
-    while i < end {
+    for i in first..first + runs {
         if run_ids[i] <= output {
             return i - first;
         }
-        i += 1;
     }
-    i - first
+    runs
 }
 
-// A refusal's number, or the place among the runs that stay, of all trees.
-#[derive(Clone, Copy)]
-pub enum Place {
-    Refused(u32),
-    At(usize),
-}
-
-// "13, 14", for a tree whose runs are `runs` runs from run `first` on; `used` runs are in use, and `kept` flags those that stay.
+// "13, 14", or the place among the runs that stay, of all trees: for a tree whose runs are those of `part`; `used` runs are in
+// use, and `kept` flags those that stay.
 #[tactic(auto, using(crate::proofs::Placed::place_full))]
 pub fn place_output(
     run_ids: &[u32],
     used: usize,
-    first: usize,
-    runs: usize,
+    part: TreeRows,
     kept: &[u8],
     output: u32,
-) -> Place
-    requires { (used ≤ 512) × (used ≤ length run_ids.now) × (used ≤ length kept.now) × (first + runs ≤ used) }
-    ensures { result ≡ place_in run_ids.now used first runs kept.now output }
+) -> Result<usize, Refusal>
+    requires { (used ≤ 512) × (used ≤ length run_ids.now) × (used ≤ length kept.now) × (part.first_run + part.runs ≤ used) }
+    ensures { result ≡ place_in run_ids.now used part.first_run part.runs kept.now output }
 {
     if output_clashes(run_ids, used, kept, output) {
-        return Place::Refused(13);
+        return Err(Refusal::RunsOutOfOrder);
     }
-    if MAX_RUNS <= wide(count_kept(&kept[0..used])) {
-        return Place::Refused(14);
+    if MAX_RUNS <= count_kept(&kept[0..used]) {
+        return Err(Refusal::TableFull);
     }
-    let end = first + output_place(run_ids, first, runs, output);
-    Place::At(first + wide(count_kept(&kept[first..end])))
+    let end = part.first_run + output_place(run_ids, part.first_run, part.runs, output);
+    Ok(part.first_run + count_kept(&kept[part.first_run..end]))
 }

@@ -1,58 +1,37 @@
 // What finish and drain find before they change anything: the job and its tree, or what is refused.
-ghost use Rattle.std.specs.Prelude.{◌≡◌, true, ◌*◌, ◌<◌, ◌≤◌, length, set};
-ghost use Rattle.rules.specs.Tables.{Ulid};
-ghost use Rattle.rules.specs.Lent.{LentTrees, LentJobs, jobs_of};
+ghost use Rattle.std.specs.Prelude.{◌≡◌, true, ◌*◌, ◌≤◌, length};
+ghost use Rattle.rules.specs.Tables.{mark_of};
+ghost use Rattle.rules.specs.Lent.{jobs_of};
 ghost use Rattle.rules.specs.Bounds.{good_jobs};
+ghost use Rattle.rows.specs.InSlices.{trees_in, jobs_in};
 ghost use Rattle.finishing.specs.Finding.{WorkFound};
 
-use rows::find::{find_job, find_prefix};
+use rows::jobs::Jobs;
+use rows::trees::Trees;
+use rules::answers::Refusal;
+use rules::tables::{Kind, Ulid};
 
-// A refusal's number; or the job's row, where its segment is missing; or the rows of the job and of its tree.
-#[derive(Clone, Copy)]
-pub enum Work {
-    Refused(u32),
-    Missing(usize),
-    Found { job: usize, tree: usize },
+// The rows of the job and of its tree, which has none where its segment is missing.
+#[derive(Clone, Copy, Debug, PartialEq, Eq)]
+pub struct Work {
+    pub job: usize,
+    pub tree: Option<usize>,
 }
 
-// "Finish: 11, 12, 7, missing segment", where `drain` is 0, and "Drain: 11, 12, missing segment", where it is 1.
-pub fn find_work(
-    tree_count: usize,
-    trees: &[u32],
-    job_count: usize,
-    job_ids: &[u64],
-    job_marks: &[u8],
-    job_specs: &[u32],
-    id_high: u64,
-    id_low: u64,
-    drain: u8,
-) -> Work
-    requires { (3 * tree_count ≤ length trees.now) × (2 * job_count ≤ length job_ids.now) × (2 * job_count ≤ length job_marks.now) × (3 * job_count ≤ length job_specs.now) }
-    ensures { (t : LentTrees) (j : LentJobs) → t.count ≡ tree_count → t.trees ≡ trees.now → j.count ≡ job_count → j.job_ids ≡ job_ids.now → j.job_marks ≡ job_marks.now → j.job_specs ≡ job_specs.now → good_jobs (jobs_of j) ≡ true → WorkFound t j (record { high = id_high; low = id_low }) drain result }
+// "Finish: 11, 12, 7, missing segment", of a tiered job, and "Drain: 11, 12, missing segment" of a drain.
+pub fn find_work(trees: &Trees, jobs: &Jobs, id: Ulid, kind: Kind) -> Result<Work, Refusal>
+    requires { (3 * trees.now.count ≤ length trees.now.rows.now) × (2 * jobs.now.count ≤ length jobs.now.ids.now) × (2 * jobs.now.count ≤ length jobs.now.marks.now) × (3 * jobs.now.count ≤ length jobs.now.specs.now) }
+    ensures { good_jobs (jobs_of (jobs_in jobs.now)) ≡ true → WorkFound (trees_in trees.now) (jobs_in jobs.now) id (mark_of kind) result }
 {
-    let job = find_job(job_ids, job_count, id_high, id_low);
-    if job_count <= job {
-        return Work::Refused(11);
+    let Some(job) = jobs.find(id) else {
+        return Err(Refusal::NoSuchJob);
+    };
+    if jobs.marks[2 * job + 1] != kind.mark() {
+        return Err(Refusal::WrongKind);
     }
-    if job_marks[2 * job + 1] != drain {
-        return Work::Refused(12);
+    if kind == Kind::Tiered && jobs.specs[3 * job + 2] == 0 {
+        return Err(Refusal::NoSources);
     }
-    if drain == 0 {
-        if job_specs[3 * job + 2] == 0 {
-            return Work::Refused(7);
-        }
-    }
-    let tree = find_prefix(trees, tree_count, job_specs[3 * job]);
-    if tree_count <= tree {
-        return Work::Missing(job);
-    }
-    Work::Found { job, tree }
-}
-
-// The status of a job.
-pub fn set_status(job_marks: &mut [u8], job: usize, status: u8)
-    requires { 2 * job < length job_marks.old }
-    ensures { job_marks.new ≡ set job_marks.old (2 * job) status }
-{
-    job_marks[2 * job] = status;
+    let tree = trees.find(jobs.specs[3 * job]);
+    Ok(Work { job, tree })
 }

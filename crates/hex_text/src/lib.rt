@@ -1,45 +1,25 @@
 // Hexadecimal numbers in text, for the programs that read recorded answers.
 #![tactic(auto)]
 
-ghost use Rattle.std.specs.Prelude.{◌≡◌};
-
-fn wide(b: u8) -> u64
-    ensures { result ≡ b }
-{
-    b as u64
-}
-
-// What a digit in small letters stands for, 16 for any other byte.
-pub fn digit(b: u8) -> u64 {
+// What a digit in small letters stands for.
+pub fn digit(b: u8) -> Option<u8> {
     match b {
-        b'0'..=b'9' => wide(b) - 48,
-        b'a'..=b'f' => wide(b) - 87,
-        _ => 16,
+        b'0'..=b'9' => Some(b - b'0'),
+        b'a'..=b'f' => Some(b - b'a' + 10),
+        _ => None,
     }
 }
 
-// The place behind the digits that stand from `from` on.
-pub fn end_of_digits(s: &[u8], from: usize) -> usize {
-    let mut i = from;
-    while i < s.len() && digit(s[i]) < 16 {
-        i += 1;
-    }
-    i
+// How many digits the text begins with.
+pub fn digit_count(s: &[u8]) -> usize {
+    s.iter().take_while(|b| digit(**b).is_some()).count()
 }
 
-// The number whose digits stand from `from` on.
-pub fn number(s: &[u8], from: usize) -> u64 {
-    let mut n: u64 = 0;
-    let mut i = from;
-    while i < s.len() && digit(s[i]) < 16 {
-        n = (n << 4) | digit(s[i]);
-        i += 1;
-    }
-    n
-}
-
-pub fn narrow(n: u64) -> u32 {
-    if n < 4294967296 { n as u32 } else { 0 }
+// The number whose digits the text begins with: of more than 16 the last ones.
+pub fn number(s: &[u8]) -> u64 {
+    s.iter()
+        .map_while(|b| digit(*b))
+        .fold(0, |n, d| (n << 4) | u64::from(d))
 }
 
 // The threshold of a pattern. `from_bits` takes no NaN's pattern: all of these stand for the NaN that 0 / 0 is.

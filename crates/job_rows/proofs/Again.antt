@@ -5,7 +5,8 @@ use mathlib.Core.List.{List, map}
 use native.Mathlib.Omega.{arith}
 use lib.ListN.{length, length-map}
 use Rattle.rules.specs.Lists.{concat_map}
-use Rattle.rules.specs.Tables.{Source, Job}
+use Rattle.rules.specs.declared.tables.Source.{Source}
+use Rattle.rules.specs.Tables.{Job}
 use Rattle.rules.specs.Lent.{LentJobs, lent_jobs, laid, lay_jobs, sources_used, sources_of, ulid_words, job_mark_words, job_spec_words}
 use Rattle.rules.specs.Bounds.{max_jobs, max_sources}
 use Rattle.rules.proofs.Laid.{length-laid}
@@ -25,7 +26,7 @@ sources-laid j js = sym (length-sources (lay_jobs j js)) ∙ ap (λ (l : List Jo
 
 -- one slice: where u numbers were in use, which is what was laid
 over : (u used : ℕ) (new new' s : List ℕ) → u ≡ length new → length new ≤ max used (length new') → laid u new' (laid used new s) ≡ laid used new' s
-over u used new new' s e h = ap (λ (n : ℕ). laid n new' (laid used new s)) e ∙ laid-again used new new' s h
+over u used new new' s e h = ap (λ (n : ℕ). laid n new' (laid used new s)) e ∙ laid-again 0 used new new' s h
 
 module _ {A : Type 0} (words : A → List ℕ) (w : ℕ) (width : (a : A) → length (words a) ≡ w) where
   rows-over : (n : ℕ) (xs ys : List A) (s : List ℕ) → w * length xs ≤ max (w * n) (w * length ys) → laid (w * length xs) (concat_map words ys) (laid (w * n) (concat_map words xs) s) ≡ laid (w * n) (concat_map words ys) s

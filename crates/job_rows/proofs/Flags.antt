@@ -2,12 +2,15 @@
 use Prim.Native.Nat.{ℕ, zero, suc, ◌+◌, ◌*◌, ◌≤◌, ◌<◌}
 use mathlib.Core.Path.{◌≡◌, refl, sym, ap, ◌∙◌}
 use mathlib.Core.List.{List, [], ◌∷◌, ◌++◌, append-nil}
-use mathlib.Core.Bool.{Bool, true, false, cond}
+use mathlib.Core.Bool.{Bool, true, false, cond, not}
 use native.Mathlib.Nat.{zero-add}
-use native.Mathlib.Numerals.{add-one}
 use native.Mathlib.Omega.{arith}
-use lib.ListN.{length, get_or, take, replicate, length-replicate, length-append}
-use lib.Seq.{paste, take-paste, length-paste, take_all, take-suc}
+use lib.ListN.{length, get_or, take, replicate, length-replicate}
+use Rattle.std.specs.List.{count_by}
+use Rattle.std.proofs.lemmas.List.Recursion.{is_count_by}
+use lib.Dec.{eqb}
+use borrow.Author.Tests.{ne_eqb}
+use lib.Seq.{paste, take-paste, length-paste, take_all}
 use Rattle.rules.specs.Lists.{keep, concat_map, total}
 use Rattle.rules.specs.Lent.{rows_from}
 use Rattle.rules.proofs.Appended.{total-append}
@@ -66,17 +69,6 @@ module _ {specs staying : List ℕ} {n : ℕ} {flags₀ flags : List ℕ} {at i 
 
 -- ---- counting
 
--- of the first i flags `count` are not 0
-pub record Counting (flags : List ℕ) (n count i : ℕ) : Type 0 where
-  pub have : n ≤ length flags
-  pub up_to : i ≤ n
-  pub low : count ≤ i
-  pub is : count ≡ length (keep marked (take i flags))
-
-pub counting-starts : {flags : List ℕ} {n : ℕ} → n ≤ length flags → Counting flags n 0 0
-unfolding keep
-counting-starts h = record { have = h; up_to = omega arith; low = omega arith; is = refl }
-
 pub keep_append : {A : Type 0} (p : A → Bool) (xs ys : List A) → keep p (xs ++ ys) ≡ keep p xs ++ keep p ys
 unfolding keep
 keep_append p [] ys = refl
@@ -86,30 +78,11 @@ keep_append p (x ∷ xs) ys = go (p x) (keep_append p xs ys)
     go true e = ap (λ l. x ∷ l) e
     go false e = e
 
-module _ {flags : List ℕ} {n count i : ℕ} (k : Counting flags n count i) where
-  more : i < n → length (keep marked (take (i + 1) flags)) ≡ count + length (keep marked (get_or flags i 0 ∷ []))
-  more h =
-      ap (λ (m : ℕ). length (keep marked (take m flags))) (add-one i)
-      ∙ ap (λ (l : List ℕ). length (keep marked l)) (take-suc flags i 0 (omega (arith, k.have)))
-      ∙ ap length (keep_append marked (take i flags) (get_or flags i 0 ∷ []))
-      ∙ length-append (keep marked (take i flags)) (keep marked (get_or flags i 0 ∷ []))
-      ∙ ap (λ (m : ℕ). m + length (keep marked (get_or flags i 0 ∷ []))) (sym k.is)
-
-  single : (x : ℕ) → (x ≡ 0 → ⊥) → length (keep marked (x ∷ [])) ≡ 1
-  unfolding keep
-  single zero h = absurd (h refl)
-  single (suc x) h = refl
-
-  pub counting_more : {count' : ℕ} → i < n → (get_or flags i 0 ≡ 0 → ⊥) → count' ≡ count + 1 → Counting flags n count' (i + 1)
-  counting_more h e c = record { have = k.have; up_to = omega arith; low = omega (arith, k.low); is = omega (arith, more h, single (get_or flags i 0) e) }
-
-  pub counting-skip : {count' : ℕ} → i < n → get_or flags i 0 ≡ 0 → count' ≡ count → Counting flags n count' (i + 1)
-  unfolding keep
-  counting-skip h e c =
-      let none : length (keep marked (get_or flags i 0 ∷ [])) ≡ 0 = rw e in
-      record { have = k.have; up_to = omega arith; low = omega (arith, k.low); is = omega (arith, more h) }
-
-  pub counting-ends : n ≤ i → count ≡ length (keep marked (take n flags))
-  counting-ends h =
-      let e : i ≡ n = omega (arith, k.up_to) in
-      rw e at k.is
+-- as many flags are kept as are not 0
+pub kept_length : (flags : List ℕ) → count_by (λ x. not (eqb x 0)) flags ≡ length (keep marked flags)
+unfolding keep
+kept_length flags = sym (is_count_by (λ (l : List ℕ). length (keep marked l)) (λ x. not (eqb x 0)) refl (λ x xs. step x xs) flags)
+  where
+    step : (x : ℕ) (xs : List ℕ) → length (keep marked (x ∷ xs)) ≡ cond (not (eqb x 0)) (1 + length (keep marked xs)) (length (keep marked xs))
+    step zero xs = refl
+    step (suc x) xs = rw (ne_eqb (suc x) 0 (λ e. omega arith)) (omega arith)

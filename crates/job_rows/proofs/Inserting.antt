@@ -1,11 +1,12 @@
 -- A job put at its place: what open_rows leaves of the six slices are the rows of the jobs with it.
-use Prim.Native.Nat.{ℕ, ◌+◌, ◌*◌, ◌-◌, ◌≤◌, ◌<◌}
+use Prim.Native.Nat.{ℕ, ◌+◌, ◌*◌, ◌-◌, ◌≤◌}
 use mathlib.Core.Path.{◌≡◌, refl, sym, ap, ◌∙◌}
 use mathlib.Core.List.{List, [], ◌∷◌, ◌++◌}
 use native.Mathlib.Omega.{arith}
 use lib.ListN.{length, take, drop, length-append, take-append-drop}
 use Rattle.rules.specs.Lists.{leading, concat_map, total}
-use Rattle.rules.specs.Tables.{ulid_below, Source, Job}
+use Rattle.rules.specs.declared.tables.Source.{Source}
+use Rattle.rules.specs.Tables.{ulid_below, Job}
 use Rattle.rules.specs.Lent.{LentJobs, lent_jobs, rows_from, ulid_at, source_at, source_count, jobs_of, sources_of, sources_used, laid, lay_jobs, ulid_words, job_mark_words, job_spec_words}
 use Rattle.rules.specs.Validation.{lent_sources}
 use Rattle.rules.specs.Jobs.{LentJob, job_of, inserted}
@@ -25,7 +26,7 @@ within_all f i n h =
     let all : n ≡ i + (n - i) = omega arith in
     omega (arith, ap (λ (m : ℕ). total (rows_from f 0 m)) all ∙ ap total (rows_from-append f 0 i (n - i)) ∙ total-append (rows_from f 0 i) (rows_from f (0 + i) (n - i)))
 
-module _ (j : LentJobs) (x : LentJob) (room : HasRoom j x.marks x.runs x.views) (at : ℕ) (place : at ≡ leading (λ v. ulid_below v x.id) (rows_from (λ k. ulid_at j.job_ids (2 * k)) 0 j.count)) where
+module _ (j : LentJobs) (x : LentJob) (room : HasRoom j x) (at : ℕ) (place : at ≡ leading (λ v. ulid_below v x.id) (rows_from (λ k. ulid_at j.job_ids (2 * k)) 0 j.count)) where
   at-is : at ≡ leading (λ y. ulid_below y.id x.id) (jobs_of j)
   at-is = place ∙ place_is j x.id
 
@@ -34,7 +35,7 @@ module _ (j : LentJobs) (x : LentJob) (room : HasRoom j x.marks x.runs x.views) 
 
   -- ---- what the movers ask
 
-  pub ask-sum : (2 < 3) × (at ≤ 64)
+  pub ask-sum : at ≤ 64
   ask-sum = omega (arith, at-within, room.capacity.jobs)
 
   pub ask-ids : (at ≤ j.count) × (2 * (j.count + 1) ≤ length j.job_ids) × (2 ≤ 2)

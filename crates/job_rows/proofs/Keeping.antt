@@ -8,7 +8,8 @@ use native.Mathlib.Omega.{arith}
 use lib.ListN.{length, get_or, take, drop, replicate, length-map}
 use lib.Seq.{drop-cons}
 use Rattle.rules.specs.Lists.{keep, concat_map, total}
-use Rattle.rules.specs.Tables.{Source, Job}
+use Rattle.rules.specs.declared.tables.Source.{Source}
+use Rattle.rules.specs.Tables.{Job}
 use Rattle.rules.specs.Lent.{LentJobs, lent_jobs, rows_from, source_at, source_count, job_at, jobs_from, jobs_of, sources_of, sources_used, laid, lay_jobs, ulid_words, job_mark_words, job_spec_words}
 use Rattle.rules.proofs.Rows.{length-rows_from}
 use Rattle.rules.proofs.Packed.{length-jobs_of, length-sources}

@@ -7,7 +7,8 @@ use native.Mathlib.Omega.{arith}
 use lib.ListN.{length, take, drop, length-append, take-append-drop}
 use lib.Seq.{take_at, drop_at}
 use Rattle.rules.specs.Lists.{any, leading, concat_map, total}
-use Rattle.rules.specs.Tables.{Ulid, same_ulid, ulid_below, Job}
+use Rattle.rules.specs.declared.tables.Ulid.{Ulid}
+use Rattle.rules.specs.Tables.{same_ulid, ulid_below, Job}
 use Rattle.rules.specs.Lent.{LentJobs, rows_from, ulid_at, source_at, source_count, job_at, jobs_from, jobs_of, sources_of}
 use Rattle.rules.specs.Jobs.{inserted}
 use Rattle.rules.proofs.Lookups.{or_left, or_right, same-ulid, ulid-same}

@@ -8,7 +8,8 @@ use native.Mathlib.Omega.{arith}
 use lib.ListN.{length, get_or, take, drop}
 use lib.Seq.{drop-cons, drop-drop, take-add}
 use Rattle.rules.specs.Lists.{concat_map}
-use Rattle.rules.specs.Tables.{Source, Job}
+use Rattle.rules.specs.declared.tables.Source.{Source}
+use Rattle.rules.specs.Tables.{Job}
 use Rattle.rules.specs.Lent.{LentJobs, rows_from, source_at, source_count, job_at, jobs_from, jobs_of, sources_used, sources_of, ulid_words, job_mark_words, job_spec_words}
 use Rattle.rules.proofs.Rows.{length-rows_from, words-of-rows}
 use Rattle.rules.proofs.Packed.{sources-first}

@@ -39,13 +39,13 @@ lent_job high low status drain prefix destination marks runs views = record {
   views = views;
 }
 
--- a job with these source slices goes into the table
-pub record HasRoom (j : LentJobs) (marks runs views : List ℕ) : Type 0 where
+-- the job goes into the table
+pub record HasRoom (j : LentJobs) (x : LentJob) : Type 0 where
   pub capacity : AtCapacity j
   pub job_fits : j.count + 1 ≤ max_jobs
-  pub entries_fit : sources_used j + length marks ≤ max_sources
-  pub runs_agree : length runs ≡ length marks
-  pub views_agree : length views ≡ 2 * length marks
+  pub entries_fit : sources_used j + length x.marks ≤ max_sources
+  pub runs_agree : length x.runs ≡ length x.marks
+  pub views_agree : length x.views ≡ 2 * length x.marks
 
 -- k is table j with the job at its place, where its id was not there
 pub record Inserts (j : LentJobs) (x : LentJob) (k : LentJobs) : Type 0 where

@@ -1,79 +1,54 @@
 // Jobs taken out of the table, with their source entries.
-ghost use Rattle.std.specs.Prelude.{◌≡◌, ◌+◌, ◌*◌, ◌≤◌, length, get_or, take, replicate};
-ghost use Rattle.std.proofs.Math.Seq.{paste};
+ghost use Rattle.std.specs.Prelude.{◌≡◌, ◌+◌, ◌*◌, ◌≤◌, length, get_or, take};
 ghost use Rattle.rules.specs.Lists.{keep, total};
-ghost use Rattle.rules.specs.Lent.{lent_jobs, rows_from};
+ghost use Rattle.rules.specs.Lent.{rows_from};
 ghost use Rattle.rows.specs.Movers.{marked};
+ghost use Rattle.job_rows.specs.Table.{table_in, SameTables};
 ghost use Rattle.job_rows.specs.Slices.{AtCapacity, entry_flags, Keeps};
 
-use rows::bounds::wide;
-use rows::{r8, r32, r64};
-
-// Writes n flags from flag `at` on.
-fn fill(flags: &mut [u8], at: usize, n: usize, flag: u8)
-    requires { at + n ≤ length flags.old }
-    ensures { flags.new ≡ paste flags.old at (replicate n flag) n }
-{
-    let mut k = 0;
-    while k < n {
-        flags[at + k] = flag;
-        k += 1;
-    }
-}
-
-// The flag of each source entry in use is that of its job; the answer is how many entries are in use.
-fn mark_entries(job_count: usize, job_specs: &[u32], staying: &[u8], flags: &mut [u8]) -> usize
-    requires { (job_count ≤ 64) × (3 * job_count ≤ length job_specs.now) × (job_count ≤ length staying.now) × (total (rows_from (λ i. get_or job_specs.now (3 * i + 2) 0) 0 job_count) ≤ length flags.old) }
-    ensures { (result ≡ total (rows_from (λ i. get_or job_specs.now (3 * i + 2) 0) 0 job_count)) × (take result flags.new ≡ entry_flags job_specs.now staying.now job_count) }
-{
-    let mut at = 0;
-    let mut i = 0;
-    while i < job_count {
-        let n = wide(job_specs[3 * i + 2]);
-        fill(flags, at, n, staying[i]);
-        at += n;
-        i += 1;
-    }
-    at
-}
+use crate::table::JobTable;
+use rows::movers::keep_rows;
+use rules::MAX_SOURCES;
 
 // How many of the first `n` flags are not 0.
+#[tactic(auto, using(crate::proofs::Flags::kept_length))]
 fn count_marked(flags: &[u8], n: usize) -> usize
     requires { n ≤ length flags.now }
     ensures { result ≡ length (keep marked (take n flags.now)) }
 {
-    let mut count = 0;
-    let mut i = 0;
-    while i < n {
-        if flags[i] != 0 {
-            count += 1;
-        }
-        i += 1;
-    }
-    count
+    flags[..n].iter().filter(|x| **x != 0).count()
 }
 
-// Keeps the jobs whose flag in `staying` is not 0; the answer is how many.
-pub fn keep_jobs(
-    job_count: usize,
-    job_ids: &mut [u64],
-    job_marks: &mut [u8],
-    job_specs: &mut [u32],
-    source_marks: &mut [u8],
-    source_runs: &mut [u32],
-    source_views: &mut [u64],
-    staying: &[u8],
-) -> usize
-    requires { AtCapacity (lent_jobs job_count job_ids.old job_marks.old job_specs.old source_marks.old source_runs.old source_views.old) × (job_count ≤ length staying.now) }
-    ensures { Keeps (lent_jobs job_count job_ids.old job_marks.old job_specs.old source_marks.old source_runs.old source_views.old) staying.now (lent_jobs result job_ids.new job_marks.new job_specs.new source_marks.new source_runs.new source_views.new) }
-{
-    let mut flags = [0u8; 1024];
-    let used = mark_entries(job_count, job_specs, staying, &mut flags);
-    r8::keep_rows(source_marks, 1, used, &flags);
-    r32::keep_rows(source_runs, 1, used, &flags);
-    r64::keep_rows(source_views, 2, used, &flags);
-    r64::keep_rows(job_ids, 2, job_count, staying);
-    r8::keep_rows(job_marks, 2, job_count, staying);
-    r32::keep_rows(job_specs, 3, job_count, staying);
-    count_marked(staying, job_count)
+impl JobTable<'_> {
+    // The flag of each source entry in use is that of its job; the answer is how many entries are in use.
+    fn mark_entries(&self, staying: &[u8], flags: &mut [u8]) -> usize
+        requires { (self.now.count ≤ 64) × (3 * self.now.count ≤ length self.now.specs.now) × (self.now.count ≤ length staying.now) × (total (rows_from (λ i. get_or self.now.specs.now (3 * i + 2) 0) 0 self.now.count) ≤ length flags.old) }
+        ensures { (result ≡ total (rows_from (λ i. get_or self.now.specs.now (3 * i + 2) 0) 0 self.now.count)) × (take result flags.new ≡ entry_flags self.now.specs.now staying.now self.now.count) }
+    {
+        let mut at = 0;
+        for i in 0..self.count {
+            let n = self.specs[3 * i + 2] as usize;
+            flags[at..at + n].fill(staying[i]);
+            at += n;
+        }
+        at
+    }
+
+    // Keeps the jobs whose flag in `staying` is not 0.
+    pub fn keep(&mut self, staying: &[u8])
+        requires { AtCapacity (table_in self.old) × (self.old.count ≤ length staying.now) }
+        ensures same { SameTables self.old self.new }
+        ensures kept { Keeps (table_in self.old) staying.now (table_in self.new) }
+    {
+        let count = self.count;
+        let mut flags = [0u8; MAX_SOURCES];
+        let used = self.mark_entries(staying, &mut flags);
+        keep_rows(self.source_marks, 1, used, &flags);
+        keep_rows(self.source_runs, 1, used, &flags);
+        keep_rows(self.source_views, 2, used, &flags);
+        keep_rows(self.ids, 2, count, staying);
+        keep_rows(self.marks, 2, count, staying);
+        keep_rows(self.specs, 3, count, staying);
+        self.count = count_marked(staying, count);
+    }
 }

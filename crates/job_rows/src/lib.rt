@@ -3,3 +3,4 @@
 
 pub mod insert;
 pub mod keep;
+pub mod table;

@@ -7,7 +7,9 @@ use mathlib.Core.Option.{some}
 use native.Mathlib.Omega.{arith}
 use lib.ListN.{length, length-append}
 use Rattle.rules.specs.Lists.{all, keep, first_with, linked, concat_map}
-use Rattle.rules.specs.Tables.{Ulid, same_ulid, ulid_below, Source, Job}
+use Rattle.rules.specs.declared.tables.Ulid.{Ulid}
+use Rattle.rules.specs.declared.tables.Source.{Source}
+use Rattle.rules.specs.Tables.{same_ulid, ulid_below, Job}
 use Rattle.rules.specs.Lent.{sources_of}
 use Rattle.rules.specs.Bounds.{good_job, good_jobs}
 use Rattle.rules.specs.Jobs.{job_with, inserted}

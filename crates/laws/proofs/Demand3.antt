@@ -11,7 +11,9 @@ use lib.Dec.{eqb}
 use lib.ListN.{length, take, length-map}
 use Rattle.rules.specs.declared.Options.{Options}
 use Rattle.rules.specs.Lists.{keep, total}
-use Rattle.rules.specs.Tables.{SourceId, sorted_run, Tree, Job, among}
+use Rattle.rules.specs.declared.tables.SourceId.{SourceId}
+use Rattle.rules.specs.declared.tables.SourceId.TheVariants.{SortedRun}
+use Rattle.rules.specs.Tables.{Tree, Job, among}
 use Rattle.rules.specs.Windows.{used_ids}
 use Rattle.rules.specs.Pick.{Spec, also, last_run, Picked, pick, and_on, own_first, own_list}
 use Rattle.rules.specs.Plan.{Plan, first_fresh, free_slots, ordered, start, planned, own_list_of}
@@ -111,10 +113,10 @@ module _ (lim : ℕ → ℕ) (o : Options) (ts : List Tree) (js : List Job) wher
     first≤ = omega (arith, given.room)
 
     -- no fresh number is used by active jobs
-    no-fresh : (t : Tree) → Memᴰ t ts → (f : ℕ) → first_fresh ts js ≤ f → among (sorted_run f) (used_ids js t.prefix) ≡ false
-    no-fresh t m f h = go (among (sorted_run f) (used_ids js t.prefix)) refl
+    no-fresh : (t : Tree) → Memᴰ t ts → (f : ℕ) → first_fresh ts js ≤ f → among (SortedRun f) (used_ids js t.prefix) ≡ false
+    no-fresh t m f h = go (among (SortedRun f) (used_ids js t.prefix)) refl
       where
-        go : (c : Bool) → among (sorted_run f) (used_ids js t.prefix) ≡ c → c ≡ false
+        go : (c : Bool) → among (SortedRun f) (used_ids js t.prefix) ≡ c → c ≡ false
         go true e = absurd (omega (arith, given.below t m f e))
         go false e = refl
 

@@ -10,7 +10,8 @@ use lib.ListN.{length}
 use borrow.Author.Tests.{eq-eqb, eqb-true, not-true}
 use Rattle.rules.specs.declared.Options.{Options}
 use Rattle.rules.specs.Lists.{any, all, distinct}
-use Rattle.rules.specs.Tables.{SourceId, Tree, Job, among}
+use Rattle.rules.specs.declared.tables.SourceId.{SourceId}
+use Rattle.rules.specs.Tables.{Tree, Job, among}
 use Rattle.rules.specs.Windows.{used_ids}
 use Rattle.rules.specs.Pick.{Spec, spec_uses, also, Picked, pick, and_on, own_first, own_list}
 use Rattle.rules.specs.Plan.{State, with_pick, first_fresh, free_slots, ordered, start, planned, own_list_of}

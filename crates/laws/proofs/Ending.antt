@@ -9,8 +9,11 @@ use lib.Dec.{eqb, lit<}
 use lib.ListN.{length, get_or, take, drop, take-append-drop, length-map, get_or-map}
 use lib.Seq.{ext_get_or}
 use Rattle.rules.specs.Lists.{keep, first_with, total}
-use Rattle.rules.specs.Tables.{Ulid, same_ulid, Run, Tree, Job, sorted_run, among, run_id, with_status}
-use Rattle.rules.specs.Lent.{LentJobs, rows_from, job_at, source_count, jobs_of, laid, job_mark_words, lay_jobs}
+use Rattle.rules.specs.declared.tables.Ulid.{Ulid}
+use Rattle.rules.specs.declared.tables.Run.{Run}
+use Rattle.rules.specs.declared.tables.SourceId.TheVariants.{SortedRun}
+use Rattle.rules.specs.Tables.{same_ulid, Tree, Job, among, run_id, with_status}
+use Rattle.rules.specs.Lent.{LentJobs, rows_from, job_at, source_count, jobs_of, job_mark_words, lay_jobs, laid_with}
 use Rattle.rules.specs.Validation.{tree_with}
 use Rattle.rules.specs.Jobs.{job_with}
 use Rattle.rules.specs.Finish.{named, runs_left, output_place, with_output, finish_tree, drain_tree, in_tree, set_status}
@@ -76,7 +79,7 @@ module _ (u : Ulid) (n : ℕ) where
     -- mark k of job i
     mark-is : (i at k : ℕ) → i < length (set_status u n (jobs_of t)) → k < 2 → at ≡ 2 * i + k
         → get_or (marks_at n u t) at 0 ≡ get_or (job_mark_words (get_or (set_status u n (jobs_of t)) i (marked no_job))) k 0
-    unfolding lay_jobs laid
+    unfolding lay_jobs laid_with
     mark-is i at k h l e = number job_mark_words 2 (λ j. refl) (set_status u n (jobs_of t)) _ (marked no_job) i h at k l e
 
     pub marks-read : jobs_of (with_marks t (marks_at n u t)) ≡ set_status u n (jobs_of t)
@@ -140,7 +143,7 @@ finished-stays j out t = refl
 pub tree-finished : (j : Job) (out : Run) (t : Tree) → TreeFinished j out t (finish_tree j out t)
 unfolding finish_tree with_output
 tree-finished j out t =
-    let gone = named j ++ (sorted_run j.destination ∷ []) in
+    let gone = named j ++ (SortedRun j.destination ∷ []) in
     let at = output_place out t.runs in
     record {
       rows = refl;

@@ -10,7 +10,11 @@ use lib.Dec.{eqb}
 use lib.ListN.{length}
 use borrow.Author.Tests.{eqb-true}
 use Rattle.rules.specs.Lists.{keep, concat_map, one_above}
-use Rattle.rules.specs.Tables.{SourceId, sorted_run, sst_view, Run, Tree, Source, Job, same_id, id_of, active, is_drain}
+use Rattle.rules.specs.declared.tables.SourceId.{SourceId}
+use Rattle.rules.specs.declared.tables.Run.{Run}
+use Rattle.rules.specs.declared.tables.Source.{Source}
+use Rattle.rules.specs.declared.tables.SourceId.TheVariants.{SortedRun, SstView}
+use Rattle.rules.specs.Tables.{Tree, Job, same_id, id_of, active, is_drain}
 use Rattle.rules.specs.Lent.{runs_of}
 use Rattle.rules.specs.Windows.{job_uses, used_ids}
 use Rattle.rules.specs.Pick.{last_run, ids_of}
@@ -95,23 +99,23 @@ module _ (ts : List Tree) (js : List Job) (room : first_fresh ts js + length ts 
 
   -- a run that a job uses is a source or its destination
   job-run : {t : Tree} → Memᴰ t ts → (j : Job) → Memᴰ j js → active j ≡ true
-      → ((s : Source) → Memᴰ s j.sources → s.mark ≡ 1 → s.run < first_fresh ts js) → {n : ℕ} → Memᴰ (sorted_run n) (job_uses j) → n < first_fresh ts js
+      → ((s : Source) → Memᴰ s j.sources → s.mark ≡ 1 → s.run < first_fresh ts js) → {n : ℕ} → Memᴰ (SortedRun n) (job_uses j) → n < first_fresh ts js
   job-run m j k a h {n} u = go (Memᴰ.append_cases (map id_of j.sources) u)
     where
       source : (s : Source) → Memᴰ s j.sources → (c : Bool) → eqb s.mark 1 ≡ c
-          → cond c (sorted_run s.run) (sst_view s.view) ≡ sorted_run n → n < first_fresh ts js
+          → cond c (SortedRun s.run) (SstView s.view) ≡ SortedRun n → n < first_fresh ts js
       source s i true e q = let same : s.run ≡ n = cc in rw (← same) (h s i (eqb-true s.mark 1 e))
       source s i false e q = absurd (let z : ◌≡◌ {A = ℕ} 0 1 = cc in omega arith)
 
-      destination : (c : Bool) → is_drain j ≡ c → Memᴰ (sorted_run n) (cond c [] (sorted_run j.destination ∷ []))
+      destination : (c : Bool) → is_drain j ≡ c → Memᴰ (SortedRun n) (cond c [] (SortedRun j.destination ∷ []))
           → n < first_fresh ts js
       destination true e i = absurd (Memᴰ.not-nil i)
       destination false e i =
-          let at : sorted_run n ≡ sorted_run j.destination = Memᴰ.eq_of_singleton i in
+          let at : SortedRun n ≡ SortedRun j.destination = Memᴰ.eq_of_singleton i in
           let same : n ≡ j.destination = cc in
           rw same (destination-below m j k a e)
 
-      go : Memᴰ (sorted_run n) (map id_of j.sources) ⊎ Memᴰ (sorted_run n) (cond (is_drain j) [] (sorted_run j.destination ∷ []))
+      go : Memᴰ (SortedRun n) (map id_of j.sources) ⊎ Memᴰ (SortedRun n) (cond (is_drain j) [] (SortedRun j.destination ∷ []))
           → n < first_fresh ts js
       go (inl i) = let r = Memᴰ.of_map id_of j.sources i in source r.0 r.1 (eqb r.0.mark 1) refl r.2
       go (inr i) = destination (is_drain j) refl i
@@ -119,13 +123,13 @@ module _ (ts : List Tree) (js : List Job) (room : first_fresh ts js + length ts 
   pub sources-suffice : SourcesBelow ts js → RunsBelow ts js
   unfolding used_ids
   sources-suffice h t m n u =
-      let found = mem-any (λ y. same_id y (sorted_run n)) (used_ids js t.prefix) u in
+      let found = mem-any (λ y. same_id y (SortedRun n)) (used_ids js t.prefix) u in
       let of = mem-concat job_uses (keep mine js) found.1 in
       let there = keep-mem mine js of.1 in
       let j = of.0 in
       job-run m j there.0 (and_left (active j) (eqb j.prefix t.prefix) there.1)
       (h t m j there.0 (and_left (active j) (eqb j.prefix t.prefix) there.1) (eqb-true j.prefix t.prefix (and_right (active j) (eqb j.prefix t.prefix) there.1)))
-      (subst (λ (x : SourceId). Memᴰ x (job_uses j)) (same_id_lem found.0 (sorted_run n) found.2) of.2)
+      (subst (λ (x : SourceId). Memᴰ x (job_uses j)) (same_id_lem found.0 (SortedRun n) found.2) of.2)
     where
       mine : Job → Bool
       mine j = active j && eqb j.prefix t.prefix

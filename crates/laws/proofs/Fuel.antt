@@ -12,7 +12,8 @@ use lib.Dec.{leb, eqb}
 use lib.ListN.{length, length-append}
 use borrow.Author.Tests.{eq-eqb, ne_eqb, eqb-false, lt-leb, not-true}
 use Rattle.rules.specs.declared.Options.{Options}
-use Rattle.rules.specs.Tables.{SourceId, Tree, among}
+use Rattle.rules.specs.declared.tables.SourceId.{SourceId}
+use Rattle.rules.specs.Tables.{Tree, among}
 use Rattle.rules.specs.Chain.{joined, chain}
 use Rattle.rules.specs.Windows.{used_ids, lasting, eligible, greatest}
 use Rattle.rules.specs.Pick.{Spec, also, Picked, pick, and_on, own_first, own_list}

@@ -10,7 +10,9 @@ use native.Mathlib.Omega.{arith}
 use lib.Dec.{eqb, ltb}
 use borrow.Author.Tests.{eqb-true, eqb-false, eq-eqb, ne_eqb, ltb-true, lt-ltb}
 use Rattle.rules.specs.Lists.{any, all, keep, concat_map, linked, distinct}
-use Rattle.rules.specs.Tables.{Ulid, same_ulid, L0Row, Run, Tree}
+use Rattle.rules.specs.declared.tables.Ulid.{Ulid}
+use Rattle.rules.specs.declared.tables.Run.{Run}
+use Rattle.rules.specs.Tables.{same_ulid, L0Row, Tree}
 use Rattle.rules.specs.Lent.{l0_of, runs_of}
 use Rattle.rules.specs.Bounds.{first_is_root, falling_ids, good_marks, good_trees}
 use Rattle.rules.specs.Pick.{ids_of}

@@ -3,7 +3,8 @@ use mathlib.Core.Path.{◌≡◌, refl, ap, ap₂}
 use mathlib.Core.List.{List, [], ◌∷◌}
 use mathlib.Core.Bool.{Bool, true, false, ◌&&◌}
 use Rattle.rules.specs.Lists.{any, all, keep, linked}
-use Rattle.rules.specs.Tables.{Ulid, same_ulid, ulid_below, Job}
+use Rattle.rules.specs.declared.tables.Ulid.{Ulid}
+use Rattle.rules.specs.Tables.{same_ulid, ulid_below, Job}
 use Rattle.rules.specs.Bounds.{good_job, good_jobs}
 use Rattle.rules.proofs.Lookups.{and_left, and_right, or_left, or_right, same-ulid}
 use Rattle.rules.proofs.Ulids.{below-trans, below_other}

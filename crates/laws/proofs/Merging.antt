@@ -5,7 +5,8 @@ use mathlib.Core.List.{List, [], ◌∷◌}
 use mathlib.Core.Bool.{Bool, true, false, cond}
 use mathlib.Core.Option.{Option, some, none}
 use Rattle.rules.specs.Lists.{all, first_with}
-use Rattle.rules.specs.Tables.{Ulid, same_ulid, ulid_below, Job}
+use Rattle.rules.specs.declared.tables.Ulid.{Ulid}
+use Rattle.rules.specs.Tables.{same_ulid, ulid_below, Job}
 use Rattle.rules.specs.Bounds.{good_job, good_jobs}
 use Rattle.rules.specs.Jobs.{job_with, inserted, adopts, adopt, merged}
 use Rattle.rules.proofs.Lookups.{same-ulid, first-none}

@@ -12,7 +12,8 @@ use lib.ListN.{length}
 use borrow.Author.Tests.{ne_eqb, eq-eqb, le-leb}
 use Rattle.rules.specs.declared.Options.{Options}
 use Rattle.rules.specs.Lists.{keep, distinct, total}
-use Rattle.rules.specs.Tables.{sorted_run, Tree, Job}
+use Rattle.rules.specs.declared.tables.SourceId.TheVariants.{SortedRun}
+use Rattle.rules.specs.Tables.{Tree, Job}
 use Rattle.rules.specs.Lent.{rows_from}
 use Rattle.rules.specs.Pick.{Spec, last_run, oldest, ids_of}
 use Rattle.rules.specs.Plan.{State, first_fresh, free_slots, ordered, start, planned}
@@ -97,17 +98,17 @@ module _ (lim : ℕ → ℕ) (o : Options) (least : 1 ≤ o.min) (most : o.min �
 
     -- a destination of step 2 is a source, and below the first fresh number
     run-destination : (s : Spec) → Memᴰ s specs → from_rows s ≡ false
-        → Memᴰ (sorted_run s.destination) s.sources × (s.destination < first_fresh ts js)
+        → Memᴰ (SortedRun s.destination) s.sources × (s.destination < first_fresh ts js)
     run-destination s m f = let x = (shapes lim o least most ts js).made s m in go x.0 x.1 x.2.step
       where
         go : (t : Tree) → Memᴰ t ts → OfRows o t s ⊎ OfRuns o t s
-            → Memᴰ (sorted_run s.destination) s.sources × (s.destination < first_fresh ts js)
+            → Memᴰ (SortedRun s.destination) s.sources × (s.destination < first_fresh ts js)
         go t k (inl r) =
             let rows = rows-first (oldest o t) (a-row lim o least most t (le-leb o.min (length t.l0) r.enough)).1 in
             absurd (true≢false (sym rows ∙ sym (ap first_is_row r.sources) ∙ f))
         go t k (inr r) =
             let in_ids = last_mem r.ids r.least in (
-              rw (r.destination, r.sources) (Memᴰ.map sorted_run in_ids),
+              rw (r.destination, r.sources) (Memᴰ.map SortedRun in_ids),
               rw r.destination
                   (below-mem {ids = ids_of t.runs} (committed-below ts js room t k) (rw r.place (Memᴰ.append_right r.before (Memᴰ.append_left r.after in_ids)))),
             )
@@ -126,7 +127,7 @@ module _ (lim : ℕ → ℕ) (o : Options) (least : 1 ≤ o.min) (most : o.min �
         go true e false f = ne_eqb s.destination r.destination (λ q. omega (arith, row-destination s m e, (run-destination r n f).1))
         go false e true f = ne_eqb s.destination r.destination (λ q. omega (arith, (run-destination s m e).1, row-destination r n f))
         go false e false f =
-            plan-apart lim o least most ts js once s r m n (or_left (sharing s r) (row_clash s r) h) (sorted_run s.destination) (sorted_run r.destination)
+            plan-apart lim o least most ts js once s r m n (or_left (sharing s r) (row_clash s r) h) (SortedRun s.destination) (SortedRun r.destination)
             (run-destination s m e).0 (run-destination r n f).0
 
     -- no destination twice

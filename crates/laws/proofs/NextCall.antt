@@ -9,7 +9,8 @@ use lib.Dec.{ltb}
 use lib.ListN.{length, length-append, length-map}
 use borrow.Author.Tests.{eq-eqb, le-ltb, ltb-false}
 use Rattle.rules.specs.Lists.{any, concat_map}
-use Rattle.rules.specs.Tables.{Source, Job, active, finished}
+use Rattle.rules.specs.declared.tables.Source.{Source}
+use Rattle.rules.specs.Tables.{Job, active, finished}
 use Rattle.rules.specs.Lent.{LentJobs, jobs_of, sources_used, ulid_words, job_mark_words, job_spec_words, sources_of, lay_jobs}
 use Rattle.rules.specs.Bounds.{max_jobs, max_sources, jobs_outside, jobs_at_capacity, good_jobs, jobs_misshapen, jobs_refusal}
 use Rattle.rules.specs.Jobs.{LentJob, job_of, inserted, too_many, job_misshapen, clashes, merged, retained, add_refusal, merge_refusal, retain_refusal}

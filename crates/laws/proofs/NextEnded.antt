@@ -10,7 +10,9 @@ use lib.Dec.{eqb, leb}
 use lib.ListN.{length, length-map}
 use borrow.Author.Tests.{eq-eqb, ne_eqb, eqb-true, le-leb, le-ltb, ltb-false}
 use Rattle.rules.specs.Lists.{all, ◌given◌else◌}
-use Rattle.rules.specs.Tables.{Ulid, same_ulid, L0Row, Run, Tree, Job, is_drain, with_status}
+use Rattle.rules.specs.declared.tables.Ulid.{Ulid}
+use Rattle.rules.specs.declared.tables.Run.{Run}
+use Rattle.rules.specs.Tables.{same_ulid, L0Row, Tree, Job, is_drain, with_status}
 use Rattle.rules.specs.Lent.{LentTrees, LentJobs, trees_of, jobs_of, l0_used, runs_used, sources_used, tree_words, watermark_mark_words, watermark_words, l0_words, l0_of, runs_of, job_mark_words, lay_trees, lay_jobs}
 use Rattle.rules.specs.Bounds.{max_trees, max_l0, max_runs, max_jobs, trees_outside, jobs_outside, trees_at_capacity, is_mark, good_sources, good_trees, good_job, trees_misshapen, jobs_misshapen, trees_refusal, jobs_refusal}
 use Rattle.rules.specs.Validation.{tree_with, is_empty}

@@ -1,17 +1,25 @@
 -- No second answer: what equals one thing is one thing, and a refusal's number is never 0.
 use Prim.Native.Nat.{ℕ, zero, suc}
 use mathlib.Core.Path.{◌≡◌, refl, sym, ap, ◌∙◌}
-use mathlib.Core.List.{List, nil≢cons}
+use mathlib.Core.List.{List, [], ◌∷◌, nil≢cons}
 use mathlib.Core.Option.{Option, some, none}
 use native.Mathlib.Omega.{arith}
-use Rattle.rules.specs.declared.PlanAnswer.{PlanAnswer}
-use Rattle.rules.specs.declared.PlanAnswer.TheVariants.{Planned, Refused as plan_refused}
-use Rattle.rules.specs.declared.ValidateAnswer.TheVariants.{Refused as validate_refused}
-use Rattle.rules.specs.declared.JobsAnswer.{JobsAnswer}
-use Rattle.rules.specs.declared.JobsAnswer.TheVariants.{Jobs, Refused as jobs_refused}
-use Rattle.rules.specs.declared.FinishAnswer.{FinishAnswer}
-use Rattle.rules.specs.declared.FinishAnswer.TheVariants.{Committed, SegmentMissing, Refused as finish_refused}
-use Rattle.rules.specs.Tables.{Ulid, Tree, Job}
+use Rattle.rules.specs.declared.answers.Refusal.{Refusal}
+use Rattle.rules.specs.declared.answers.Planned.{Planned as Made}
+use Rattle.rules.specs.Answers.{PlanAnswer, plan_answer, validate_answer}
+use Rattle.rules.specs.Answers.PlanAnswer.{Planned, Refused as plan_refused}
+use Rattle.rules.specs.Answers.ValidateAnswer.{Refused as validate_refused}
+use Rattle.std.specs.Prelude.{Result}
+use Rattle.std.specs.declared.result.Result.TheVariants.{Ok, Err}
+use Rattle.rules.proofs.Refused.{numbered, one-number}
+use Rattle.rules.specs.Answers.{JobsAnswer, jobs_answer}
+use Rattle.rules.specs.Answers.JobsAnswer.{Jobs, Refused as jobs_refused}
+use Rattle.rules.specs.declared.answers.Finished.{Finished}
+use Rattle.rules.specs.declared.answers.Finished.TheVariants.{Committed as Done, SegmentMissing as Missing}
+use Rattle.rules.specs.Answers.{FinishAnswer, finish_answer}
+use Rattle.rules.specs.Answers.FinishAnswer.{Committed, SegmentMissing, Refused as finish_refused}
+use Rattle.rules.specs.declared.tables.Ulid.{Ulid}
+use Rattle.rules.specs.Tables.{Tree, Job}
 use Rattle.rules.specs.Lent.{LentTrees, LentJobs, trees_of, jobs_of}
 use Rattle.rules.specs.Limit.{limit_of}
 use Rattle.rules.specs.Plan.{Plan, planned}
@@ -59,6 +67,40 @@ finish-told (finish_refused m) Committed n v = absurd (nil≢cons v)
 finish-told (finish_refused m) SegmentMissing n v = absurd (nil≢cons v)
 finish-told (finish_refused m) (finish_refused k) n v = ap finish_refused n
 
+-- ---- and so does what is said of the code's answer
+plan-answers : (a b : Result Made Refusal) → plan_answer a ≡ plan_answer b → a ≡ b
+unfolding plan_values plan_number
+plan-answers (Ok x) (Ok y) e = let specs : x.specs ≡ y.specs = cc in let passes : x.passes ≡ y.passes = cc in λ i. Ok (record { specs = specs i; passes = passes i })
+plan-answers (Ok x) (Err s) e = absurd (nil≢cons (sym (ap plan_values e)))
+plan-answers (Err r) (Ok y) e = absurd (nil≢cons (ap plan_values e))
+plan-answers (Err r) (Err s) e = ap Err (one-number r s (ap plan_number e))
+
+validate-answers : (a b : Result Unit Refusal) → validate_answer a ≡ validate_answer b → a ≡ b
+unfolding validate_number
+validate-answers (Ok x) (Ok y) e = ap Ok refl
+validate-answers (Ok x) (Err s) e = absurd (numbered s (sym (ap validate_number e)))
+validate-answers (Err r) (Ok y) e = absurd (numbered r (ap validate_number e))
+validate-answers (Err r) (Err s) e = ap Err (one-number r s (ap validate_number e))
+
+jobs-answers : (a b : Result Unit Refusal) (m n : ℕ) → jobs_answer a m ≡ jobs_answer b n → a ≡ b
+unfolding jobs_number
+jobs-answers (Ok x) (Ok y) m n e = ap Ok refl
+jobs-answers (Ok x) (Err s) m n e = absurd (numbered s (sym (ap jobs_number e)))
+jobs-answers (Err r) (Ok y) m n e = absurd (numbered r (ap jobs_number e))
+jobs-answers (Err r) (Err s) m n e = ap Err (one-number r s (ap jobs_number e))
+
+finish-answers : (a b : Result Finished Refusal) → finish_answer a ≡ finish_answer b → a ≡ b
+unfolding finish_number finish_values
+finish-answers (Ok Done) (Ok Done) e = refl
+finish-answers (Ok Done) (Ok Missing) e = absurd (let z : ◌≡◌ {A = List ℕ} (0 ∷ []) (1 ∷ []) = ap finish_values e in let y : ◌≡◌ {A = ℕ} 0 1 = cc in omega arith)
+finish-answers (Ok Missing) (Ok Done) e = absurd (let z : ◌≡◌ {A = List ℕ} (1 ∷ []) (0 ∷ []) = ap finish_values e in let y : ◌≡◌ {A = ℕ} 1 0 = cc in omega arith)
+finish-answers (Ok Missing) (Ok Missing) e = refl
+finish-answers (Ok Done) (Err s) e = absurd (nil≢cons (sym (ap finish_values e)))
+finish-answers (Ok Missing) (Err s) e = absurd (nil≢cons (sym (ap finish_values e)))
+finish-answers (Err r) (Ok Done) e = absurd (nil≢cons (ap finish_values e))
+finish-answers (Err r) (Ok Missing) e = absurd (nil≢cons (ap finish_values e))
+finish-answers (Err r) (Err s) e = ap Err (one-number r s (ap finish_number e))
+
 -- ---- no refusal has number 0
 plan-never : (n : ℕ) (made : Plan) (p : LentPlan) → (plan_by n made p).answer ≡ plan_refused 0 → ⊥
 unfolding plan_values plan_number
@@ -101,6 +143,11 @@ no-second-answer = record {
   plan_told = plan-told;
   jobs_told = jobs-told;
   finish_told = finish-told;
+  refusals = one-number;
+  plan_answers = plan-answers;
+  validate_answers = validate-answers;
+  jobs_answers = jobs-answers;
+  finish_answers = finish-answers;
   plan_never = λ o t j p e. plan-never (plan_refusal o t j p) (planned (limit_of o.threshold) o (trees_of t) (jobs_of j)) p e;
   validate_never = λ t s e. validate-never (validate_refusal t s) e;
   add_never = λ t j e. jobs-never (add_refusal t j) (inserted (job_of j) (jobs_of t)) t e;

@@ -6,7 +6,9 @@ use mathlib.Core.Bool.{true, false, ◌||◌}
 use mathlib.Core.Option.{Option, some, none}
 use lib.Dec.{eqb}
 use borrow.Author.Tests.{eqb-true, not-false}
-use Rattle.rules.specs.Tables.{Ulid, Run, Tree, Job}
+use Rattle.rules.specs.declared.tables.Ulid.{Ulid}
+use Rattle.rules.specs.declared.tables.Run.{Run}
+use Rattle.rules.specs.Tables.{Tree, Job}
 use Rattle.rules.specs.Lent.{LentTrees, LentJobs, trees_of, jobs_of}
 use Rattle.rules.specs.Bounds.{jobs_outside, good_job, good_jobs, jobs_misshapen, lengths_agree}
 use Rattle.rules.specs.Validation.{tree_with}

@@ -12,7 +12,9 @@ use lib.ListN.{length}
 use borrow.Author.Tests.{not-true}
 use Rattle.rules.specs.declared.Options.{Options}
 use Rattle.rules.specs.Lists.{any, all, total, last_of}
-use Rattle.rules.specs.Tables.{SourceId, sorted_run, L0Row, Tree, among, view_id}
+use Rattle.rules.specs.declared.tables.SourceId.{SourceId}
+use Rattle.rules.specs.declared.tables.SourceId.TheVariants.{SortedRun}
+use Rattle.rules.specs.Tables.{L0Row, Tree, among, view_id}
 use Rattle.rules.specs.Chain.{held_back}
 use Rattle.rules.specs.Windows.{passes, last, window}
 use Rattle.rules.specs.Pick.{Spec, spec_uses, also, last_run, Picked, ids_of, sizes_of, l0_sizes_of, oldest, takes_rows, row_pick, run_pick, pick, and_on, own_first, own_list}
@@ -45,7 +47,7 @@ aside-rows o t h f g = rw h
 
 -- ---- so long as a tree's oldest rows are free, it uses no fresh number
 record Unmet (first : ℕ) (o : Options) (t : Tree) (u : SourceId → Bool) : Type 0 where
-  at : (f : ℕ) → first ≤ f → unused u (oldest_ids o t) ≡ true → u (sorted_run f) ≡ false
+  at : (f : ℕ) → first ≤ f → unused u (oldest_ids o t) ≡ true → u (SortedRun f) ≡ false
 
 -- two picks that differ in the fresh number alone
 record Alike (first : ℕ) (o : Options) (t : Tree) (u v : SourceId → Bool) (p q : Picked) : Type 0 where
@@ -82,7 +84,7 @@ module _ (lim : ℕ → ℕ) (o : Options) (least : 1 ≤ o.min) (most : o.min �
       → pick lim o u f t ≡ cond (row_test u) (some (row_pick o f t)) (run_pick o f t (runs u))
   unfolding pick takes_rows passes all
   pick_is {u} {f} m h =
-      rw (all_append (λ x. not (u x)) (oldest_ids o t) (sorted_run f ∷ []), no-fresh-test (unused u (oldest_ids o t)) (u (sorted_run f)) (m.at f h))
+      rw (all_append (λ x. not (u x)) (oldest_ids o t) (SortedRun f ∷ []), no-fresh-test (unused u (oldest_ids o t)) (u (SortedRun f)) (m.at f h))
 
   -- ---- after a pick
 
@@ -98,7 +100,7 @@ module _ (lim : ℕ → ℕ) (o : Options) (least : 1 ≤ o.min) (most : o.min �
       now = also u (row_pick o f t).spec
 
       taken : now r.0 ≡ true
-      taken = rw (mem-among (Memᴰ.append_left (sorted_run f ∷ []) r.1)) (or-true (u r.0))
+      taken = rw (mem-among (Memᴰ.append_left (SortedRun f ∷ []) r.1)) (or-true (u r.0))
 
   -- a run that was taken is no fresh number
   unmet-runs : (u : SourceId → Bool) (s : Spec) → AllOld first (spec_uses s) → Unmet first o t u → Unmet first o t (also u s)
@@ -107,12 +109,12 @@ module _ (lim : ℕ → ℕ) (o : Options) (least : 1 ≤ o.min) (most : o.min �
 
   -- step 2's spec
   abbrev run_spec : ℕ → List ℕ → Spec
-  run_spec i w = record { prefix = t.prefix; sources = map sorted_run (last_of o.max (i ∷ w)); destination = last (i ∷ w) }
+  run_spec i w = record { prefix = t.prefix; sources = map SortedRun (last_of o.max (i ∷ w)); destination = last (i ∷ w) }
 
   -- a run window is of old ids, with its destination
   old-window : (i : ℕ) (w : List ℕ) → Below first (i ∷ w) → AllOld first (spec_uses (run_spec i w))
   old-window i w b =
-      old-append first (map sorted_run (last_of o.max (i ∷ w))) (sorted_run (last (i ∷ w)))
+      old-append first (map SortedRun (last_of o.max (i ∷ w))) (SortedRun (last (i ∷ w)))
       (below_old first (last_of o.max (i ∷ w)) (below-drop first (length (i ∷ w) - o.max) (i ∷ w) b)) (below_last first i w b)
 
   -- rows with one fresh number or another: of old ids the same are used
@@ -122,8 +124,8 @@ module _ (lim : ℕ → ℕ) (o : Options) (least : 1 ≤ o.min) (most : o.min �
   same_rows {u} {v} {f} {g} s hf hg = record { at = λ x old. ap₂ ◌||◌ (s.at x old) (rows-only f x old hf ∙ sym (rows-only g x old hg)) }
     where
       rows-only : (d : ℕ) (x : SourceId) → Old first x → first ≤ d
-          → among x (oldest_ids o t ++ (sorted_run d ∷ [])) ≡ (among x (oldest_ids o t) || false)
-      rows-only d x old h = rw (among-append x (oldest_ids o t) (sorted_run d ∷ []), old-not-fresh {f = d} x old h)
+          → among x (oldest_ids o t ++ (SortedRun d ∷ [])) ≡ (among x (oldest_ids o t) || false)
+      rows-only d x old h = rw (among-append x (oldest_ids o t) (SortedRun d ∷ []), old-not-fresh {f = d} x old h)
 
   -- ---- two picks at tests that say the same of old ids
   tandem : {u v : SourceId → Bool} {f g : ℕ} → Same first u v → Unmet first o t u → Unmet first o t v → first ≤ f → first ≤ g
@@ -185,7 +187,7 @@ module _ (lim : ℕ → ℕ) (o : Options) (least : 1 ≤ o.min) (most : o.min �
       go (some q) e w ih = λ f hf. let x = w f hf in (x.0, x.1, x.2.spec, x.2.fresh, ih x.0 q x.2 (omega (arith, fewer lim o least most t v g e)))
 
   -- where no fresh number is used at the start, a tree follows its own list
-  pub own-follows : (u : SourceId → Bool) → ((f : ℕ) → first ≤ f → u (sorted_run f) ≡ false)
+  pub own-follows : (u : SourceId → Bool) → ((f : ℕ) → first ≤ f → u (SortedRun f) ≡ false)
       → Follows lim o first t u (map aside (own_list lim o u first t))
   unfolding own_list
   own-follows u h =

@@ -11,7 +11,8 @@ use lib.Dec.{eqb}
 use lib.ListN.{length, length-append, length-map}
 use borrow.Author.Tests.{eq-eqb, ne_eqb}
 use Rattle.rules.specs.declared.Options.{Options}
-use Rattle.rules.specs.Tables.{SourceId, Tree, among}
+use Rattle.rules.specs.declared.tables.SourceId.{SourceId}
+use Rattle.rules.specs.Tables.{Tree, among}
 use Rattle.rules.specs.Pick.{Spec, spec_uses, also, Picked, pick}
 use Rattle.rules.specs.Plan.{State, Plan, with_pick, ask, pass, picked, passes_from}
 use Rattle.rules.proofs.Passes.{pass-stops, pass-none, pass-some, passes-end, passes-go-on}

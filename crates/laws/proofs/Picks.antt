@@ -11,7 +11,9 @@ use lib.ListN.{length, drop, length-append, length-map}
 use borrow.Author.Tests.{leb-true, not-true}
 use Rattle.rules.specs.declared.Options.{Options}
 use Rattle.rules.specs.Lists.{all, total, last_of}
-use Rattle.rules.specs.Tables.{SourceId, sorted_run, L0Row, Tree, among, view_id}
+use Rattle.rules.specs.declared.tables.SourceId.{SourceId}
+use Rattle.rules.specs.declared.tables.SourceId.TheVariants.{SortedRun}
+use Rattle.rules.specs.Tables.{L0Row, Tree, among, view_id}
 use Rattle.rules.specs.Chain.{held_back}
 use Rattle.rules.specs.Windows.{passes, last, window}
 use Rattle.rules.specs.Pick.{Spec, spec_uses, also, Picked, ids_of, sizes_of, l0_sizes_of, oldest, takes_rows, row_pick, run_pick, pick}
@@ -23,7 +25,7 @@ use Rattle.laws.proofs.Windows.{window-free}
 
 -- the ids of a tree's rows and runs
 abbrev pub rows_of : Tree → List SourceId
-rows_of t = map view_id t.l0 ++ map sorted_run (ids_of t.runs)
+rows_of t = map view_id t.l0 ++ map SortedRun (ids_of t.runs)
 
 -- as many as there are
 pub rows-length : (t : Tree) → length (rows_of t) ≡ length t.l0 + length t.runs
@@ -68,15 +70,15 @@ module _ (lim : ℕ → ℕ) (o : Options) (u : SourceId → Bool) (f : ℕ) (t 
   -- ---- all that a pick uses was free
 
   -- what holds of ids holds where the front is dropped
-  all_drop : (p : SourceId → Bool) (k : ℕ) (ids : List ℕ) → all p (map sorted_run ids) ≡ true
-      → all p (map sorted_run (drop k ids)) ≡ true
+  all_drop : (p : SourceId → Bool) (k : ℕ) (ids : List ℕ) → all p (map SortedRun ids) ≡ true
+      → all p (map SortedRun (drop k ids)) ≡ true
   unfolding all
   all_drop p zero ids h = h
   all_drop p (suc k) [] h = refl
-  all_drop p (suc k) (i ∷ ids) h = all_drop p k ids (and_right (p (sorted_run i)) (all p (map sorted_run ids)) h)
+  all_drop p (suc k) (i ∷ ids) h = all_drop p k ids (and_right (p (SortedRun i)) (all p (map SortedRun ids)) h)
 
   -- all that step 1 uses
-  rows-free : takes_rows lim o u f t ≡ true → unused u (oldest_ids o t ++ (sorted_run f ∷ [])) ≡ true
+  rows-free : takes_rows lim o u f t ≡ true → unused u (oldest_ids o t ++ (SortedRun f ∷ [])) ≡ true
   unfolding takes_rows passes
   rows-free h =
       and_left _ (not (held_back lim o.max (total (l0_sizes_of (oldest o t))) (sizes_of t.runs)))
@@ -89,10 +91,10 @@ module _ (lim : ℕ → ℕ) (o : Options) (u : SourceId → Bool) (f : ℕ) (t 
       go : Cases lim o u f t p → unused u (spec_uses p.spec) ≡ true
       go (takes-rows h q) = rw q (rows-free h)
       go (takes-runs i w k q) =
-          let whole = sym (all_append (λ x. not (u x)) (map sorted_run (i ∷ w)) (sorted_run (last (i ∷ w)) ∷ [])) ∙ (window-free lim o.min o.max u (ids_of t.runs) (sizes_of t.runs) i w k).1 in
-          let front = all_drop (λ x. not (u x)) (length (i ∷ w) - o.max) (i ∷ w) (and_left (unused u (map sorted_run (i ∷ w))) _ whole) in
-          rw (some-injective _ _ q, all_append (λ x. not (u x)) (map sorted_run (last_of o.max (i ∷ w))) (sorted_run (last (i ∷ w)) ∷ []), front)
-          (and_right (unused u (map sorted_run (i ∷ w))) _ whole)
+          let whole = sym (all_append (λ x. not (u x)) (map SortedRun (i ∷ w)) (SortedRun (last (i ∷ w)) ∷ [])) ∙ (window-free lim o.min o.max u (ids_of t.runs) (sizes_of t.runs) i w k).1 in
+          let front = all_drop (λ x. not (u x)) (length (i ∷ w) - o.max) (i ∷ w) (and_left (unused u (map SortedRun (i ∷ w))) _ whole) in
+          rw (some-injective _ _ q, all_append (λ x. not (u x)) (map SortedRun (last_of o.max (i ∷ w))) (SortedRun (last (i ∷ w)) ∷ []), front)
+          (and_right (unused u (map SortedRun (i ∷ w))) _ whole)
 
 -- ---- a pick uses a row or a run of its tree
 
@@ -102,7 +104,7 @@ rows-first [] m = elim m [ ]
 rows-first (v ∷ vs) m = refl
 
 -- a spec with runs for sources has no rows
-pub not-rows : (s : Spec) (ids : List ℕ) → s.sources ≡ map sorted_run ids → from_rows s ≡ false
+pub not-rows : (s : Spec) (ids : List ℕ) → s.sources ≡ map SortedRun ids → from_rows s ≡ false
 not-rows s [] e = rw e
 not-rows s (i ∷ ids) e = rw e
 
@@ -133,11 +135,11 @@ module _ (lim : ℕ → ℕ) (o : Options) (least : 1 ≤ o.min) (most : o.min �
         go : Cases lim o u f t p → (x : SourceId) × Memᴰ x (rows_of t) × Memᴰ x (spec_uses p.spec)
         go (takes-rows h q) =
             let r = a-row (enough-rows h) in
-            (r.0, Memᴰ.append_left (map sorted_run (ids_of t.runs)) r.2, rw q (Memᴰ.append_left (sorted_run f ∷ []) r.1))
+            (r.0, Memᴰ.append_left (map SortedRun (ids_of t.runs)) r.2, rw q (Memᴰ.append_left (SortedRun f ∷ []) r.1))
         go (takes-runs i w k q) = (
-          sorted_run (last (i ∷ w)),
+          SortedRun (last (i ∷ w)),
           Memᴰ.append_right (map view_id t.l0) (window-free lim o.min o.max u (ids_of t.runs) (sizes_of t.runs) i w k).0,
-          rw (some-injective _ _ q) (Memᴰ.append_right (map sorted_run (last_of o.max (i ∷ w))) (Memᴰ.head refl)),
+          rw (some-injective _ _ q) (Memᴰ.append_right (map SortedRun (last_of o.max (i ∷ w))) (Memᴰ.head refl)),
         )
 
     -- so after it fewer are free

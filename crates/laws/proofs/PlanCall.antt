@@ -6,7 +6,7 @@ use mathlib.Core.Bool.{true, false, ◌&&◌, ◌||◌}
 use lib.Dec.{leb, ltb}
 use borrow.Author.Tests.{leb-true, not-false}
 use Rattle.rules.specs.declared.Options.{Options}
-use Rattle.rules.specs.declared.PlanAnswer.TheVariants.{Planned}
+use Rattle.rules.specs.Answers.PlanAnswer.{Planned}
 use Rattle.rules.specs.Tables.{Tree}
 use Rattle.rules.specs.Lent.{LentTrees, LentJobs, trees_of, jobs_of}
 use Rattle.rules.specs.Bounds.{max_concurrent, trees_outside, jobs_outside, good_trees, trees_misshapen, jobs_misshapen}

@@ -11,7 +11,9 @@ use lib.ListN.{length, take, drop, take-append-drop, length-append}
 use borrow.Author.Tests.{ltb-false}
 use Rattle.rules.specs.declared.Options.{Options}
 use Rattle.rules.specs.Lists.{all, concat_map, total, last_of}
-use Rattle.rules.specs.Tables.{SourceId, sorted_run, Tree, Job, among, view_id}
+use Rattle.rules.specs.declared.tables.SourceId.{SourceId}
+use Rattle.rules.specs.declared.tables.SourceId.TheVariants.{SortedRun}
+use Rattle.rules.specs.Tables.{Tree, Job, among, view_id}
 use Rattle.rules.specs.Lent.{LentTrees, LentJobs, trees_of, jobs_of, l0_of, runs_of, l0_used, runs_used}
 use Rattle.rules.specs.Pick.{Spec, spec_uses, also, Picked, ids_of, sizes_of, pick}
 use Rattle.rules.specs.Plan.{State, with_pick, free_slots, ordered, pass, picked, passes_from, start, planned}
@@ -83,13 +85,13 @@ record Placed (xs rows : List SourceId) : Type 0 where
   place : rows ≡ before ++ (xs ++ after)
 
 -- a part of the runs is, behind the rows
-runs-placed : (vs : List SourceId) (w ids : List ℕ) → Part w ids → Placed (map sorted_run w) (vs ++ map sorted_run ids)
+runs-placed : (vs : List SourceId) (w ids : List ℕ) → Part w ids → Placed (map SortedRun w) (vs ++ map SortedRun ids)
 runs-placed vs w ids part = record {
-  before = vs ++ map sorted_run part.before;
-  after = map sorted_run part.after;
+  before = vs ++ map SortedRun part.before;
+  after = map SortedRun part.after;
   place =
-      ap (λ (l : List ℕ). vs ++ map sorted_run l) part.place
-      ∙ rw (map-append sorted_run part.before (w ++ part.after), map-append sorted_run w part.after) (sym (append_assoc vs (map sorted_run part.before) _));
+      ap (λ (l : List ℕ). vs ++ map SortedRun l) part.place
+      ∙ rw (map-append SortedRun part.before (w ++ part.after), map-append SortedRun w part.after) (sym (append_assoc vs (map SortedRun part.before) _));
 }
 
 module _ (lim : ℕ → ℕ) (o : Options) (u : SourceId → Bool) (f : ℕ) (t : Tree) where
@@ -103,10 +105,10 @@ module _ (lim : ℕ → ℕ) (o : Options) (u : SourceId → Bool) (f : ℕ) (t 
           rw q
           (record {
             before = map view_id (take k t.l0);
-            after = map sorted_run (ids_of t.runs);
+            after = map SortedRun (ids_of t.runs);
             place =
-                ap (λ (vs : List SourceId). vs ++ map sorted_run (ids_of t.runs)) split
-                ∙ append_assoc (map view_id (take k t.l0)) (map view_id (drop k t.l0)) (map sorted_run (ids_of t.runs));
+                ap (λ (vs : List SourceId). vs ++ map SortedRun (ids_of t.runs)) split
+                ∙ append_assoc (map view_id (take k t.l0)) (map view_id (drop k t.l0)) (map SortedRun (ids_of t.runs));
           })
       go (takes-runs i w k q) =
           let part : Part (last_of o.max (i ∷ w)) (ids_of t.runs) =
@@ -120,14 +122,14 @@ module _ (lim : ℕ → ℕ) (o : Options) (u : SourceId → Bool) (f : ℕ) (t 
       let r = pick-placed p e in
       let s = p.spec in
       let w : SourceId → Bool = λ x. among x (spec_uses s) in
-      let was = and_left (unused u s.sources) _ (sym (all_append (λ x. not (u x)) s.sources (sorted_run s.destination ∷ [])) ∙ pick_free lim o u f t p e) in
+      let was = and_left (unused u s.sources) _ (sym (all_append (λ x. not (u x)) s.sources (SortedRun s.destination ∷ [])) ∙ pick_free lim o u f t p e) in
       rw (r.place, free-append u r.before (s.sources ++ r.after), free-append u s.sources r.after, free-append (also u s) r.before (s.sources ++ r.after), free-append (also u s) s.sources r.after)
       (omega (
         arith,
         free-le u w r.before,
         free-le u w r.after,
         free_all u s.sources was,
-        free-none (also u s) s.sources (λ x m. rw (mem-among (Memᴰ.append_left (sorted_run s.destination ∷ []) m)) (or-true (u x))),
+        free-none (also u s) s.sources (λ x m. rw (mem-among (Memᴰ.append_left (SortedRun s.destination ∷ []) m)) (or-true (u x))),
       ))
 
 -- ---- a call

@@ -7,9 +7,10 @@ use mathlib.Core.Bool.{true, false}
 use lib.ListN.{length, get_or, length-map, get_or-map}
 use borrow.Author.Tests.{eq-eqb}
 use Rattle.rules.specs.declared.Options.{Options}
-use Rattle.rules.specs.declared.ValidateAnswer.TheVariants.{Accepted}
+use Rattle.rules.specs.Answers.ValidateAnswer.{Accepted}
 use Rattle.rules.specs.Lists.{all, concat_map}
-use Rattle.rules.specs.Tables.{SourceId, sorted_run, sst_view}
+use Rattle.rules.specs.declared.tables.SourceId.{SourceId}
+use Rattle.rules.specs.declared.tables.SourceId.TheVariants.{SortedRun, SstView}
 use Rattle.rules.specs.Lent.{LentTrees, LentJobs, rows_from, source_at, trees_of, jobs_of}
 use Rattle.rules.specs.Bounds.{trees_outside, trees_misshapen, is_mark, good_sources}
 use Rattle.rules.specs.Limit.{limit_of}
@@ -29,8 +30,8 @@ use Rattle.laws.proofs.PlanCall.{accepted-good, has-places}
 
 -- its marks are marks
 a-mark : (x : SourceId) → is_mark (mark_of x) ≡ true
-a-mark (sorted_run r) = refl
-a-mark (sst_view v) = refl
+a-mark (SortedRun r) = refl
+a-mark (SstView v) = refl
 
 marks-good : (xs : List SourceId) (runs views : List ℕ) (i n : ℕ)
     → all (λ s. is_mark s.mark) (rows_from (source_at (map mark_of xs) runs views) i n) ≡ true

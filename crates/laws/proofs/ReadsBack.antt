@@ -8,8 +8,11 @@ use lib.Dec.{lit<}
 use lib.ListN.{length, get_or, take, drop, length-append, length-map, get_or-map}
 use lib.Seq.{take_at, drop_at, get_or-append_seam}
 use Rattle.rules.specs.Lists.{concat_map}
-use Rattle.rules.specs.Tables.{SourceId, sorted_run, sst_view, Source, id_of}
-use Rattle.rules.specs.Lent.{ulid_at, source_at, laid}
+use Rattle.rules.specs.declared.tables.SourceId.{SourceId}
+use Rattle.rules.specs.declared.tables.Source.{Source}
+use Rattle.rules.specs.declared.tables.SourceId.TheVariants.{SortedRun, SstView}
+use Rattle.rules.specs.Tables.{id_of}
+use Rattle.rules.specs.Lent.{ulid_at, source_at, laid, laid_with}
 use Rattle.rules.specs.Pick.{Spec}
 use Rattle.rules.specs.Planning.{LentPlan, spec_places, source_places, mark_of, run_of, view_words, spec_words, spec_sources, lay_plan}
 use Rattle.rules.specs.Validation.{lent_spec, lent_sources}
@@ -27,16 +30,16 @@ entry_of x = record { mark = mark_of x; run = run_of x; view = ulid_at (view_wor
 
 -- each view takes two words
 pub two-words : (x : SourceId) → length (view_words x) ≡ 2
-two-words (sorted_run r) = refl
-two-words (sst_view v) = refl
+two-words (SortedRun r) = refl
+two-words (SstView v) = refl
 
 entry-id : (x : SourceId) → id_of (entry_of x) ≡ x
-entry-id (sorted_run r) = refl
-entry-id (sst_view v) = refl
+entry-id (SortedRun r) = refl
+entry-id (SstView v) = refl
 
 -- an id, for want of one
 abbrev pub no_id : SourceId
-no_id = sst_view (record { high = 0; low = 0 })
+no_id = SstView (record { high = 0; low = 0 })
 
 -- entry i of the slices is that of source i
 pub entry_at : (xs : List SourceId) (i : ℕ) → i < length xs
@@ -76,7 +79,7 @@ module _ (p : LentPlan) (ss : List Spec) where
   -- number k of spec i
   number_is : (i at k : ℕ) → i < length ss → k < 3 → at ≡ 3 * i + k
       → get_or (lay_plan p ss).specs at 0 ≡ get_or (spec_words (get_or ss i no_spec)) k 0
-  unfolding lay_plan laid
+  unfolding lay_plan laid_with
   number_is i at k h l e = number spec_words 3 (λ s. refl) ss _ no_spec i h at k l e
 
   -- the sources of spec x, behind those of the specs `pre`
@@ -89,7 +92,7 @@ module _ (p : LentPlan) (ss : List Spec) where
     -- in a slice with a number for each
     column : (f : SourceId → ℕ) (s : List ℕ)
         → take (length x.sources) (drop (length (spec_sources pre)) (laid 0 (map f (spec_sources ss)) s)) ≡ map f x.sources
-    unfolding laid
+    unfolding laid_with
     column f s =
         rw (sources-split pre x now e, map-append f (spec_sources pre) (x.sources ++ spec_sources now), map-append f x.sources (spec_sources now), append_assoc (map f (spec_sources pre)), append_assoc (map f x.sources))
         (cut (map f (spec_sources pre)) (map f x.sources) _ _ _ (length-map (spec_sources pre) f) (length-map x.sources f))
@@ -97,7 +100,7 @@ module _ (p : LentPlan) (ss : List Spec) where
     -- in the slice with two
     views-part : (s : List ℕ)
         → take (2 * length x.sources) (drop (2 * length (spec_sources pre)) (laid 0 (concat_map view_words (spec_sources ss)) s)) ≡ concat_map view_words x.sources
-    unfolding laid
+    unfolding laid_with
     views-part s =
         rw (sources-split pre x now e, concat_map-append view_words (spec_sources pre) (x.sources ++ spec_sources now), concat_map-append view_words x.sources (spec_sources now), append_assoc (concat_map view_words (spec_sources pre)), append_assoc (concat_map view_words x.sources))
         (cut (concat_map view_words (spec_sources pre)) (concat_map view_words x.sources) _ _ _ (length-words view_words 2 two-words (spec_sources pre)) (length-words view_words 2 two-words x.sources))
@@ -131,7 +134,7 @@ module _ (p : LentPlan) (ss : List Spec) where
 
   -- a slice beyond what was laid
   beyond : (new s : List ℕ) (n : ℕ) → length new ≡ n → drop n (laid 0 new s) ≡ drop n s
-  unfolding laid
+  unfolding laid_with
   beyond new s n e =
       let none : 0 - length new ≡ 0 = omega arith in
       let far : max 0 (length new) ≡ n = omega arith in

@@ -12,7 +12,9 @@ use lib.ListN.{length, take, drop, take-append-drop, length-drop}
 use borrow.Author.Tests.{leb-true, leb-false, eq-eqb, eqb-true, not-true}
 use Rattle.rules.specs.declared.Options.{Options}
 use Rattle.rules.specs.Lists.{any, keep, distinct, last_of}
-use Rattle.rules.specs.Tables.{SourceId, sorted_run, Tree, Job, among}
+use Rattle.rules.specs.declared.tables.SourceId.{SourceId}
+use Rattle.rules.specs.declared.tables.SourceId.TheVariants.{SortedRun}
+use Rattle.rules.specs.Tables.{Tree, Job, among}
 use Rattle.rules.specs.Windows.{last, eligible, greatest, or_later, window}
 use Rattle.rules.specs.Pick.{Spec, spec_uses, also, Picked, ids_of, sizes_of, pick, and_on, own_first, own_list}
 use Rattle.rules.specs.Plan.{State, with_pick, free_slots, ordered, start, planned, own_list_of}
@@ -193,9 +195,9 @@ module _ (lim : ℕ → ℕ) (o : Options) (least : 1 ≤ o.min) (most : o.min �
         go true e =
             let r = a-row lim o least most t e in
             one_left t.prefix r.0 (planned lim o ts js).specs (disjoint lim o ts js).once
-            (λ s n p f. Memᴰ.append_left {s = s.sources} (sorted_run s.destination ∷ []) (rw (rows-oldest d t m s n p f).sources r.1))
+            (λ s n p f. Memᴰ.append_left {s = s.sources} (SortedRun s.destination ∷ []) (rw (rows-oldest d t m s n p f).sources r.1))
         go false e =
-            one_left t.prefix (sorted_run 0) (planned lim o ts js).specs (disjoint lim o ts js).once
+            one_left t.prefix (SortedRun 0) (planned lim o ts js).specs (disjoint lim o ts js).once
             (λ s n p f. absurd (omega (arith, (rows-oldest d t m s n p f).enough, leb-false o.min (length t.l0) e)))
 
     -- all together

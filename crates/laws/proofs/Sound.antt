@@ -11,7 +11,11 @@ use lib.Dec.{eqb}
 use lib.ListN.{length, take, drop, take-append-drop, length-append}
 use borrow.Author.Tests.{eq-eqb, ne_eqb, not-false}
 use Rattle.rules.specs.Lists.{any, keep, concat_map, distinct}
-use Rattle.rules.specs.Tables.{Ulid, same_ulid, L0Row, Run, Tree, Job, SourceId, sorted_run, sst_view, among, run_id, view_id}
+use Rattle.rules.specs.declared.tables.Ulid.{Ulid}
+use Rattle.rules.specs.declared.tables.Run.{Run}
+use Rattle.rules.specs.declared.tables.SourceId.{SourceId}
+use Rattle.rules.specs.declared.tables.SourceId.TheVariants.{SortedRun, SstView}
+use Rattle.rules.specs.Tables.{same_ulid, L0Row, Tree, Job, among, run_id, view_id}
 use Rattle.rules.specs.Bounds.{falling_ids, good_marks}
 use Rattle.rules.specs.Pick.{ids_of}
 use Rattle.rules.specs.Validation.{tree_with}
@@ -37,8 +41,8 @@ finished-marks j out t h = go (named j) refl
   where
     go : (xs : List SourceId) → named j ≡ xs → good_marks (finish_tree j out t) ≡ true
     go [] e = rw e h
-    go (sorted_run r ∷ xs) e = rw e h
-    go (sst_view u ∷ xs) e = mark-good u (row_of_view u t.l0) (finish_tree j out t) (rw e)
+    go (SortedRun r ∷ xs) e = rw e h
+    go (SstView u ∷ xs) e = mark-good u (row_of_view u t.l0) (finish_tree j out t) (rw e)
 
 drained-marks : (j : Job) (t : Tree) → good_marks t ≡ true → good_marks (drain_tree j t) ≡ true
 unfolding drain_tree
@@ -90,7 +94,7 @@ module _ (ts : List Tree) (rules : ByRules ts) where
     a-run t r m = go (Memᴰ.append_cases (runs_left gone (take at t.runs)) m)
       where
         gone : List SourceId
-        gone = named j ++ (sorted_run j.destination ∷ [])
+        gone = named j ++ (SortedRun j.destination ∷ [])
 
         at : ℕ
         at = output_place out t.runs

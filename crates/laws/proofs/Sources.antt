@@ -12,7 +12,11 @@ use lib.ListN.{length, take, drop, take-append-drop}
 use borrow.Author.Tests.{eq-eqb, eqb-true, eqb-false}
 use Rattle.rules.specs.declared.Options.{Options}
 use Rattle.rules.specs.Lists.{distinct, concat_map}
-use Rattle.rules.specs.Tables.{Ulid, SourceId, sorted_run, sst_view, L0Row, Run, Tree, Job, same_ulid, same_id, among, view_id}
+use Rattle.rules.specs.declared.tables.Ulid.{Ulid}
+use Rattle.rules.specs.declared.tables.SourceId.{SourceId}
+use Rattle.rules.specs.declared.tables.Run.{Run}
+use Rattle.rules.specs.declared.tables.SourceId.TheVariants.{SortedRun, SstView}
+use Rattle.rules.specs.Tables.{L0Row, Tree, Job, same_ulid, same_id, among, view_id}
 use Rattle.rules.specs.Lent.{l0_of, runs_of}
 use Rattle.rules.specs.Pick.{Spec, spec_uses, ids_of}
 use Rattle.rules.specs.Plan.{planned, own_list_of}
@@ -34,8 +38,8 @@ views-distinct vs h =
     distinct-map view_id same_id same (λ a b. refl) vs ∙ sym (distinct-map (λ v. v.view) same_ulid same (λ a b. refl) vs) ∙ h
 
 -- runs with distinct ids
-ids-distinct : (ids : List ℕ) → distinct eqb ids ≡ true → distinct same_id (map sorted_run ids) ≡ true
-ids-distinct ids h = distinct-map sorted_run same_id eqb (λ a b. refl) ids ∙ h
+ids-distinct : (ids : List ℕ) → distinct eqb ids ≡ true → distinct same_id (map SortedRun ids) ≡ true
+ids-distinct ids h = distinct-map SortedRun same_id eqb (λ a b. refl) ids ∙ h
 
 module _ {o : Options} {t : Tree} {s : Spec} where
   -- the sources of a spec are distinct where the tree's rows are
@@ -55,10 +59,10 @@ module _ {o : Options} {t : Tree} {s : Spec} where
 
   -- and each of them is a row or a run of the tree
   source_of : {x : SourceId} → Made o t s → Memᴰ x s.sources
-      → Memᴰ x (map view_id t.l0) ⊎ Memᴰ x (map sorted_run (ids_of t.runs))
+      → Memᴰ x (map view_id t.l0) ⊎ Memᴰ x (map SortedRun (ids_of t.runs))
   source_of {x} made m = go made.step
     where
-      go : OfRows o t s ⊎ OfRuns o t s → Memᴰ x (map view_id t.l0) ⊎ Memᴰ x (map sorted_run (ids_of t.runs))
+      go : OfRows o t s ⊎ OfRuns o t s → Memᴰ x (map view_id t.l0) ⊎ Memᴰ x (map SortedRun (ids_of t.runs))
       go (inl r) =
           let k = length t.l0 - o.max in
           inl
@@ -66,16 +70,16 @@ module _ {o : Options} {t : Tree} {s : Spec} where
           (Memᴰ.append_right (map view_id (take k t.l0)) (rw r.sources at m)))
       go (inr r) =
           inr
-          (rw (r.place, map-append sorted_run r.before (r.ids ++ r.after), map-append sorted_run r.ids r.after)
-          (Memᴰ.append_right (map sorted_run r.before) (Memᴰ.append_left (map sorted_run r.after) (rw r.sources at m))))
+          (rw (r.place, map-append SortedRun r.before (r.ids ++ r.after), map-append SortedRun r.ids r.after)
+          (Memᴰ.append_right (map SortedRun r.before) (Memᴰ.append_left (map SortedRun r.after) (rw r.sources at m))))
 
 -- ---- two specs of one tree
 unshared : (s r : Spec) → sharing s r ≡ false → s.prefix ≡ r.prefix → {x y : SourceId} → Memᴰ x s.sources
     → Memᴰ y r.sources → same_id x y ≡ false
 unshared s r h e {x} {y} m n =
     any_none (λ z. same_id z y)
-    (any_none (λ z. among z (spec_uses s)) (rw (eq-eqb s.prefix r.prefix e) at h) (Memᴰ.append_left (sorted_run r.destination ∷ []) n))
-    (Memᴰ.append_left (sorted_run s.destination ∷ []) m)
+    (any_none (λ z. among z (spec_uses s)) (rw (eq-eqb s.prefix r.prefix e) at h) (Memᴰ.append_left (SortedRun r.destination ∷ []) n))
+    (Memᴰ.append_left (SortedRun s.destination ∷ []) m)
 
 -- ---- two trees
 pub map-concat : {A B C : Type 0} (g : B → C) (f : A → List B) (xs : List A)
@@ -85,10 +89,10 @@ map-concat g f [] = refl
 map-concat {C = C} g f (x ∷ xs) = map-append g (f x) (concat_map f xs) ∙ ap (λ (r : List C). map g (f x) ++ r) (map-concat g f xs)
 
 -- a view is no run
-view-no-run : {x : SourceId} (vs : List L0Row) (ids : List ℕ) → Memᴰ x (map view_id vs) → Memᴰ x (map sorted_run ids) → ⊥
-view-no-run {x} vs ids a b = no (Memᴰ.of_map view_id vs a).2 (Memᴰ.of_map sorted_run ids b).2
+view-no-run : {x : SourceId} (vs : List L0Row) (ids : List ℕ) → Memᴰ x (map view_id vs) → Memᴰ x (map SortedRun ids) → ⊥
+view-no-run {x} vs ids a b = no (Memᴰ.of_map view_id vs a).2 (Memᴰ.of_map SortedRun ids b).2
   where
-    no : {u : Ulid} {i : ℕ} → sst_view u ≡ x → sorted_run i ≡ x → ⊥
+    no : {u : Ulid} {i : ℕ} → SstView u ≡ x → SortedRun i ≡ x → ⊥
     no p q = let z : ◌≡◌ {A = ℕ} 0 1 = cc in omega arith
 
 module _ {ts : List Tree} (once : RowsOnce ts) where
@@ -97,16 +101,16 @@ module _ {ts : List Tree} (once : RowsOnce ts) where
   all-views = rw (← map-concat view_id (λ t. t.l0) ts) (views-distinct (l0_of ts) once.views)
 
   -- the runs of all trees
-  all_runs : distinct same_id (concat_map (λ t. map sorted_run (ids_of t.runs)) ts) ≡ true
+  all_runs : distinct same_id (concat_map (λ t. map SortedRun (ids_of t.runs)) ts) ≡ true
   all_runs =
-      rw (← map-concat sorted_run (λ t. ids_of t.runs) ts, ← map-concat (λ (r : Run). r.id) (λ t. t.runs) ts) (ids-distinct (ids_of (runs_of ts)) once.runs)
+      rw (← map-concat SortedRun (λ t. ids_of t.runs) ts, ← map-concat (λ (r : Run). r.id) (λ t. t.runs) ts) (ids-distinct (ids_of (runs_of ts)) once.runs)
 
   -- a row or run belongs to one tree
   one-tree : {t c : Tree} {x : SourceId} → Memᴰ t ts → Memᴰ c ts
-      → Memᴰ x (map view_id t.l0) ⊎ Memᴰ x (map sorted_run (ids_of t.runs))
-      → Memᴰ x (map view_id c.l0) ⊎ Memᴰ x (map sorted_run (ids_of c.runs)) → t ≡ c
+      → Memᴰ x (map view_id t.l0) ⊎ Memᴰ x (map SortedRun (ids_of t.runs))
+      → Memᴰ x (map view_id c.l0) ⊎ Memᴰ x (map SortedRun (ids_of c.runs)) → t ≡ c
   one-tree m n (inl a) (inl b) = one-part (λ t. map view_id t.l0) same_id same_self all-views m n a b
-  one-tree m n (inr a) (inr b) = one-part (λ t. map sorted_run (ids_of t.runs)) same_id same_self all_runs m n a b
+  one-tree m n (inr a) (inr b) = one-part (λ t. map SortedRun (ids_of t.runs)) same_id same_self all_runs m n a b
   one-tree {t} {c} m n (inl a) (inr b) = absurd (view-no-run t.l0 (ids_of c.runs) a b)
   one-tree {t} {c} m n (inr a) (inl b) = absurd (view-no-run c.l0 (ids_of t.runs) b a)
 

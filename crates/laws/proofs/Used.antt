@@ -7,7 +7,9 @@ use native.Mathlib.Omega.{arith}
 use lib.ListN.{length}
 use borrow.Author.Tests.{eqb-true, eq-eqb, ne_eqb}
 use Rattle.rules.specs.Lists.{any, all, keep}
-use Rattle.rules.specs.Tables.{SourceId, sorted_run, sst_view, same_id, among}
+use Rattle.rules.specs.declared.tables.SourceId.{SourceId}
+use Rattle.rules.specs.declared.tables.SourceId.TheVariants.{SortedRun, SstView}
+use Rattle.rules.specs.Tables.{same_id, among}
 use Rattle.rules.proofs.Appended.{any_append}
 use Rattle.rules.proofs.Lookups.{and_left, and_right, same-ulid, ulid-same}
 
@@ -50,15 +52,15 @@ module _ {A : Type 0} (p : A → Bool) where
 
 -- an id is the same as itself
 pub same_self : (x : SourceId) → same_id x x ≡ true
-same_self (sorted_run n) = eq-eqb n n refl
-same_self (sst_view v) = ulid-same v v refl
+same_self (SortedRun n) = eq-eqb n n refl
+same_self (SstView v) = ulid-same v v refl
 
 -- ids that test the same are the same
 pub same_id_lem : (x y : SourceId) → same_id x y ≡ true → x ≡ y
-same_id_lem (sorted_run a) (sorted_run b) h = ap sorted_run (eqb-true a b h)
-same_id_lem (sorted_run a) (sst_view v) h = absurd (false≢true h)
-same_id_lem (sst_view u) (sorted_run b) h = absurd (false≢true h)
-same_id_lem (sst_view u) (sst_view v) h = ap sst_view (same-ulid u v h)
+same_id_lem (SortedRun a) (SortedRun b) h = ap SortedRun (eqb-true a b h)
+same_id_lem (SortedRun a) (SstView v) h = absurd (false≢true h)
+same_id_lem (SstView u) (SortedRun b) h = absurd (false≢true h)
+same_id_lem (SstView u) (SstView v) h = ap SstView (same-ulid u v h)
 
 -- an id among two lists
 pub among-append : (x : SourceId) (u w : List SourceId) → among x (u ++ w) ≡ (among x u || among x w)
@@ -72,8 +74,8 @@ mem-among {x} m = any-mem (λ y. same_id y x) m (same_self x)
 
 -- a view, or a run below the first fresh number
 abbrev pub Old : ℕ → SourceId → Type 0
-Old first (sorted_run n) = n < first
-Old first (sst_view v) = Unit {0}
+Old first (SortedRun n) = n < first
+Old first (SstView v) = Unit {0}
 
 -- a list of such ids
 abbrev pub AllOld : ℕ → List SourceId → Type 0
@@ -86,16 +88,16 @@ old-append first [] x o p = (p, tt)
 old-append first (y ∷ xs) x o p = (o.0, old-append first xs x o.1 p)
 
 -- such an id is no fresh number
-pub old-not-fresh : {first f : ℕ} (x : SourceId) → Old first x → first ≤ f → same_id (sorted_run f) x ≡ false
-old-not-fresh {first} {f} (sorted_run n) o h = ne_eqb f n (λ e. omega arith)
-old-not-fresh (sst_view v) o h = refl
+pub old-not-fresh : {first f : ℕ} (x : SourceId) → Old first x → first ≤ f → same_id (SortedRun f) x ≡ false
+old-not-fresh {first} {f} (SortedRun n) o h = ne_eqb f n (λ e. omega arith)
+old-not-fresh (SstView v) o h = refl
 
 -- no fresh number is among old ids
-pub fresh-none : {first f : ℕ} (xs : List SourceId) → AllOld first xs → first ≤ f → among (sorted_run f) xs ≡ false
+pub fresh-none : {first f : ℕ} (xs : List SourceId) → AllOld first xs → first ≤ f → among (SortedRun f) xs ≡ false
 unfolding any
 fresh-none [] o h = refl
-fresh-none {first} {f} (sorted_run n ∷ xs) o h = rw (ne_eqb n f (λ e. omega (arith, o.0))) (fresh-none xs o.1 h)
-fresh-none (sst_view v ∷ xs) o h = fresh-none xs o.1 h
+fresh-none {first} {f} (SortedRun n ∷ xs) o h = rw (ne_eqb n f (λ e. omega (arith, o.0))) (fresh-none xs o.1 h)
+fresh-none (SstView v ∷ xs) o h = fresh-none xs o.1 h
 
 -- two tests that say the same of all old ids
 pub record Same (first : ℕ) (u v : SourceId → Bool) : Type 0 where

@@ -12,7 +12,10 @@ use lib.ListN.{length, take, drop, take-append-drop}
 use borrow.Author.Tests.{eq-eqb, eqb-true, le-leb, ltb-true}
 use Rattle.rules.specs.declared.Options.{Options}
 use Rattle.rules.specs.Lists.{first_with, linked}
-use Rattle.rules.specs.Tables.{SourceId, sorted_run, L0Row, Run, Tree, Job, run_id, view_id}
+use Rattle.rules.specs.declared.tables.SourceId.{SourceId}
+use Rattle.rules.specs.declared.tables.Run.{Run}
+use Rattle.rules.specs.declared.tables.SourceId.TheVariants.{SortedRun}
+use Rattle.rules.specs.Tables.{L0Row, Tree, Job, run_id, view_id}
 use Rattle.rules.specs.Bounds.{falling_ids, good_trees}
 use Rattle.rules.specs.Windows.{last}
 use Rattle.rules.specs.Pick.{Spec, ids_of}
@@ -96,7 +99,7 @@ falling-before (i ∷ (j ∷ ids)) after h = rw (and_left (ltb j i) _ h) (fallin
 
 -- the last of ids that fall is the lowest
 falling-lowest : (i : ℕ) (ids : List ℕ) → Falling (i ∷ ids)
-    → (lowest_run (map sorted_run (i ∷ ids)) ≡ some (last (i ∷ ids))) × (last (i ∷ ids) ≤ i)
+    → (lowest_run (map SortedRun (i ∷ ids)) ≡ some (last (i ∷ ids))) × (last (i ∷ ids) ≤ i)
 unfolding lowest_run linked last
 falling-lowest i [] h = (refl, omega arith)
 falling-lowest i (j ∷ ids) h =
@@ -106,7 +109,7 @@ falling-lowest i (j ∷ ids) h =
     (ap (λ (x : Option ℕ). some (lower i x)) r.0 ∙ ap some least, omega (arith, r.1))
 
 -- ---- one spec
-runs-are : (rs : List Run) → map run_id rs ≡ map sorted_run (ids_of rs)
+runs-are : (rs : List Run) → map run_id rs ≡ map SortedRun (ids_of rs)
 runs-are [] = refl
 runs-are (r ∷ rs) = ap {B = List SourceId} (λ xs. run_id r ∷ xs) (runs-are rs)
 
@@ -138,18 +141,18 @@ module _ (lim : ℕ → ℕ) (o : Options) (least : 1 ≤ o.min) (most : o.min �
   accepts-runs r = rw r.sources (go r.ids r.least r.place r.destination)
     where
       go : (ids : List ℕ) → 1 ≤ length ids → ids_of t.runs ≡ r.before ++ (ids ++ r.after) → s.destination ≡ last ids
-          → tiered_refusal (map sorted_run ids) s.destination (some t) ≡ 0
+          → tiered_refusal (map SortedRun ids) s.destination (some t) ≡ 0
       go [] l place d = absurd (omega arith)
       go (i ∷ ids) l place d =
           let falling = falling-before (i ∷ ids) r.after (falling-after r.before ((i ∷ ids) ++ r.after) (rw place at (runs-falling t.runs falls))) in
           let lowest = (falling-lowest i ids falling).0 in
-          accepts t (map sorted_run (i ∷ ids)) s.destination (map view_id t.l0 ++ map sorted_run r.before) (map sorted_run r.after) refl
+          accepts t (map SortedRun (i ∷ ids)) s.destination (map view_id t.l0 ++ map SortedRun r.before) (map SortedRun r.after) refl
           (ap (λ (xs : List SourceId). map view_id t.l0 ++ xs)
           (runs-are t.runs
-          ∙ ap (map sorted_run) place
-          ∙ map-append sorted_run r.before ((i ∷ ids) ++ r.after)
-          ∙ ap (λ (xs : List SourceId). map sorted_run r.before ++ xs) (map-append sorted_run (i ∷ ids) r.after))
-          ∙ sym (append_assoc (map view_id t.l0) (map sorted_run r.before) _))
+          ∙ ap (map SortedRun) place
+          ∙ map-append SortedRun r.before ((i ∷ ids) ++ r.after)
+          ∙ ap (λ (xs : List SourceId). map SortedRun r.before ++ xs) (map-append SortedRun (i ∷ ids) r.after))
+          ∙ sym (append_assoc (map view_id t.l0) (map SortedRun r.before) _))
           (ap (wrong_destination s.destination) lowest ∙ ap not (eq-eqb s.destination (last (i ∷ ids)) d))
 
   accepts-made : Made o t s → tiered_refusal s.sources s.destination (some t) ≡ 0

@@ -8,7 +8,8 @@ use native.Mathlib.Omega.{arith}
 use lib.Dec.{leb}
 use lib.ListN.{length, take, drop, take-append-drop}
 use Rattle.rules.specs.Lists.{total}
-use Rattle.rules.specs.Tables.{SourceId, sorted_run}
+use Rattle.rules.specs.declared.tables.SourceId.{SourceId}
+use Rattle.rules.specs.declared.tables.SourceId.TheVariants.{SortedRun}
 use Rattle.rules.specs.Chain.{chain, held_back}
 use Rattle.rules.specs.Windows.{passes, last, beginning_passes, up_to, lasting, eligible, greatest, or_later, window}
 use Rattle.rules.proofs.Lookups.{and_left, and_right}
@@ -22,7 +23,7 @@ Below first [] = Unit {0}
 Below first (i ∷ ids) = (i < first) × Below first ids
 
 -- as ids they are no fresh numbers
-pub below_old : (first : ℕ) (ids : List ℕ) → Below first ids → AllOld first (map sorted_run ids)
+pub below_old : (first : ℕ) (ids : List ℕ) → Below first ids → AllOld first (map SortedRun ids)
 below_old first [] b = tt
 below_old first (i ∷ ids) b = (b.0, below_old first ids b.1)
 
@@ -57,14 +58,14 @@ last_mem (i ∷ []) h = Memᴰ.head refl
 last_mem (i ∷ (j ∷ ids)) h = Memᴰ.tail (last_mem (j ∷ ids) (omega arith))
 
 -- the last of the first ids is one of all
-last-in : (k i : ℕ) (ids : List ℕ) → Memᴰ (sorted_run (last (take (suc k) (i ∷ ids)))) (map sorted_run (i ∷ ids))
+last-in : (k i : ℕ) (ids : List ℕ) → Memᴰ (SortedRun (last (take (suc k) (i ∷ ids)))) (map SortedRun (i ∷ ids))
 last-in k i ids =
     let front = take (suc k) (i ∷ ids) in
-    Memᴰ.map sorted_run (subst (Memᴰ (last front)) (take-append-drop (suc k) (i ∷ ids)) (Memᴰ.append_left (drop (suc k) (i ∷ ids)) (last_mem front (omega arith))))
+    Memᴰ.map SortedRun (subst (Memᴰ (last front)) (take-append-drop (suc k) (i ∷ ids)) (Memᴰ.append_left (drop (suc k) (i ∷ ids)) (last_mem front (omega arith))))
 
 -- a run window, with its destination
 abbrev pub window_uses : List ℕ → List SourceId
-window_uses w = map sorted_run w ++ (sorted_run (last w) ∷ [])
+window_uses w = map SortedRun w ++ (SortedRun (last w) ∷ [])
 
 -- the greatest k with p has p
 greatest-has : (p : ℕ → Bool) (n k : ℕ) → greatest p n ≡ suc k → p (suc k) ≡ true
@@ -88,7 +89,7 @@ module _ (lim : ℕ → ℕ) (least most : ℕ) where
         let t = below-take first (suc k) (i ∷ ids) b in
         ap (λ (c : Bool). c && not (held_back lim most (total (take (suc k) sizes)) (drop (suc k) sizes)))
         (unused-same (window_uses (take (suc k) (i ∷ ids))) same
-        (old-append first (map sorted_run (take (suc k) (i ∷ ids))) _ (below_old first (take (suc k) (i ∷ ids)) t) (below_last first i (take k ids) t)))
+        (old-append first (map SortedRun (take (suc k) (i ∷ ids))) _ (below_old first (take (suc k) (i ∷ ids)) t) (below_last first i (take k ids) t)))
 
     -- and so all beginnings up to k
     beginnings-same : (i : ℕ) (ids sizes : List ℕ) (k : ℕ) → Below first (i ∷ ids)
@@ -123,7 +124,7 @@ module _ (lim : ℕ → ℕ) (least most : ℕ) where
 
     -- its last run is one of these ids, and it uses nothing that is used
     abbrev pub Free : List ℕ → List ℕ → Type 0
-    Free ids w = Memᴰ (sorted_run (last w)) (map sorted_run ids) × (unused u (window_uses w) ≡ true)
+    Free ids w = Memᴰ (SortedRun (last w)) (map SortedRun ids) × (unused u (window_uses w) ≡ true)
 
     -- so a window is free
     pub window-free : (ids sizes : List ℕ) (i : ℕ) (w : List ℕ) → window lim least most u ids sizes ≡ i ∷ w → Free ids (i ∷ w)

@@ -4,7 +4,10 @@ use Rattle.std.specs.Prelude.{ℕ, ◌+◌, ◌/◌, ◌≤◌, ◌<◌, min, ma
 use mathlib.Core.List.{List, [], ◌∷◌, map, Memᴰ}
 use Rattle.rules.specs.declared.Options.{Options}
 use Rattle.rules.specs.Lists.{keep, total, distinct}
-use Rattle.rules.specs.Tables.{SourceId, sorted_run, sst_view, Tree, Source, Job, among, active}
+use Rattle.rules.specs.declared.tables.SourceId.{SourceId}
+use Rattle.rules.specs.declared.tables.Source.{Source}
+use Rattle.rules.specs.declared.tables.SourceId.TheVariants.{SortedRun, SstView}
+use Rattle.rules.specs.Tables.{Tree, Job, among, active}
 use Rattle.rules.specs.Windows.{used_ids}
 use Rattle.rules.specs.Pick.{Spec, last_run}
 use Rattle.rules.specs.Plan.{Plan, first_fresh, free_slots, planned, own_list_of}
@@ -16,8 +19,8 @@ gets p t = keep (λ s. eqb s.prefix t.prefix) p.specs
 -- a spec of step 1: its sources are L0 rows, and its destination is a fresh number
 abbrev pub first_is_row : List SourceId → Bool
 first_is_row [] = false
-first_is_row (sorted_run r ∷ xs) = false
-first_is_row (sst_view v ∷ xs) = true
+first_is_row (SortedRun r ∷ xs) = false
+first_is_row (SstView v ∷ xs) = true
 
 abbrev pub from_rows : Spec → Bool
 from_rows s = first_is_row s.sources
@@ -34,7 +37,7 @@ largest (n ∷ ns) = max n (largest ns)
 -- every run number in a tree's active jobs is below the first fresh number: the runs among their sources, those of drains too,
 -- and the destinations of the tiered ones
 abbrev pub RunsBelow : List Tree → List Job → Type 0
-RunsBelow ts js = (t : Tree) → Memᴰ t ts → (n : ℕ) → among (sorted_run n) (used_ids js t.prefix) ≡ true → n < first_fresh ts js
+RunsBelow ts js = (t : Tree) → Memᴰ t ts → (n : ℕ) → among (SortedRun n) (used_ids js t.prefix) ≡ true → n < first_fresh ts js
 
 -- the runs among their sources: the destinations are below by themselves
 abbrev pub SourcesBelow : List Tree → List Job → Type 0

@@ -7,7 +7,9 @@ use Rattle.std.specs.Float.{binary32}
 use Rattle.std.specs.Float.Ieee.{of_bits}
 use Rattle.rules.specs.declared.Options.{Options}
 use Rattle.rules.specs.Lists.{any, all, keep, concat_map, total, one_above, distinct}
-use Rattle.rules.specs.Tables.{Ulid, L0Row, Run, Tree, Job}
+use Rattle.rules.specs.declared.tables.Ulid.{Ulid}
+use Rattle.rules.specs.declared.tables.Run.{Run}
+use Rattle.rules.specs.Tables.{L0Row, Tree, Job}
 use Rattle.rules.specs.Chain.{chain, joined, held_back}
 use Rattle.rules.specs.Windows.{used_ids, passes, last, beginning_passes, up_to, lasting, eligible, greatest, window}
 use Rattle.rules.specs.Pick.{takes_rows, pick, own_first, own_list}

@@ -1,7 +1,8 @@
 -- The bounds on the recursions of rules are no bounds: "until there is none", "Planning ends after a pass without a pick".
 use Rattle.std.specs.Prelude.{ℕ, ◌+◌, ◌≤◌, ◌≡◌, List, [], ◌∷◌, Bool, length}
 use Rattle.rules.specs.declared.Options.{Options}
-use Rattle.rules.specs.Tables.{SourceId, Tree, Job}
+use Rattle.rules.specs.declared.tables.SourceId.{SourceId}
+use Rattle.rules.specs.Tables.{Tree, Job}
 use Rattle.rules.specs.Windows.{eligible, greatest}
 use Rattle.rules.specs.Pick.{own_first, own_list}
 use Rattle.rules.specs.Plan.{free_slots, ordered, start, planned, passes_from, own_list_of}

@@ -1,7 +1,9 @@
 -- All that this crate proves, in one record: what each statement holds of, and under which premises.
 use Rattle.std.specs.Prelude.{ℕ, ◌+◌, ◌≤◌, ◌≡◌, List, true, length}
 use Rattle.rules.specs.declared.Options.{Options}
-use Rattle.rules.specs.Tables.{Ulid, Run, Tree, Job}
+use Rattle.rules.specs.declared.tables.Ulid.{Ulid}
+use Rattle.rules.specs.declared.tables.Run.{Run}
+use Rattle.rules.specs.Tables.{Tree, Job}
 use Rattle.rules.specs.Lent.{LentTrees, LentJobs, jobs_of}
 use Rattle.rules.specs.Bounds.{good_trees, good_job, good_jobs, jobs_refusal}
 use Rattle.rules.specs.Limit.{limit_of}

@@ -1,17 +1,20 @@
 -- "That no second answer fits is proved": a promise is that the answer and every lent table afterwards ARE what a definition
 -- of rules/specs/Calls.antt computes from the input, so that two that keep it are the same. It would not hold of a promise
 -- that bounds an answer, or that tells answers by their numbers alone (`Refused 0` has that of an accepted call).
-use Rattle.std.specs.Prelude.{ℕ, ◌≡◌, List}
+use Rattle.std.specs.Prelude.{ℕ, ◌≡◌, List, Result}
 use Rattle.rules.specs.declared.Options.{Options}
-use Rattle.rules.specs.declared.PlanAnswer.{PlanAnswer}
-use Rattle.rules.specs.declared.PlanAnswer.TheVariants.{Refused as plan_refused}
-use Rattle.rules.specs.declared.ValidateAnswer.{ValidateAnswer}
-use Rattle.rules.specs.declared.ValidateAnswer.TheVariants.{Refused as validate_refused}
-use Rattle.rules.specs.declared.JobsAnswer.{JobsAnswer}
-use Rattle.rules.specs.declared.JobsAnswer.TheVariants.{Refused as jobs_refused}
-use Rattle.rules.specs.declared.FinishAnswer.{FinishAnswer}
-use Rattle.rules.specs.declared.FinishAnswer.TheVariants.{Refused as finish_refused}
-use Rattle.rules.specs.Tables.{Ulid, Run}
+use Rattle.rules.specs.declared.answers.Refusal.{Refusal}
+use Rattle.rules.specs.declared.answers.Planned.{Planned}
+use Rattle.rules.specs.Answers.{number_of, PlanAnswer, plan_answer, ValidateAnswer, validate_answer}
+use Rattle.rules.specs.Answers.PlanAnswer.{Refused as plan_refused}
+use Rattle.rules.specs.Answers.ValidateAnswer.{Refused as validate_refused}
+use Rattle.rules.specs.Answers.{JobsAnswer, jobs_answer}
+use Rattle.rules.specs.Answers.JobsAnswer.{Refused as jobs_refused}
+use Rattle.rules.specs.declared.answers.Finished.{Finished}
+use Rattle.rules.specs.Answers.{FinishAnswer, finish_answer}
+use Rattle.rules.specs.Answers.FinishAnswer.{Refused as finish_refused}
+use Rattle.rules.specs.declared.tables.Ulid.{Ulid}
+use Rattle.rules.specs.declared.tables.Run.{Run}
 use Rattle.rules.specs.Lent.{LentTrees, LentJobs}
 use Rattle.rules.specs.Planning.{LentPlan}
 use Rattle.rules.specs.Validation.{LentSpec}
@@ -47,6 +50,12 @@ pub record NoSecondAnswer : Type 0 where
   pub plan_told : (a b : PlanAnswer) → plan_number a ≡ plan_number b → plan_values a ≡ plan_values b → a ≡ b
   pub jobs_told : (a b : JobsAnswer) → jobs_number a ≡ jobs_number b → jobs_values a ≡ jobs_values b → a ≡ b
   pub finish_told : (a b : FinishAnswer) → finish_number a ≡ finish_number b → finish_values a ≡ finish_values b → a ≡ b
+  -- each refusal has a number of its own, so that they settle what the code answers too
+  pub refusals : (r s : Refusal) → number_of r ≡ number_of s → r ≡ s
+  pub plan_answers : (a b : Result Planned Refusal) → plan_answer a ≡ plan_answer b → a ≡ b
+  pub validate_answers : (a b : Result Unit Refusal) → validate_answer a ≡ validate_answer b → a ≡ b
+  pub jobs_answers : (a b : Result Unit Refusal) (m n : ℕ) → jobs_answer a m ≡ jobs_answer b n → a ≡ b
+  pub finish_answers : (a b : Result Finished Refusal) → finish_answer a ≡ finish_answer b → a ≡ b
   -- and no call answers `Refused 0`
   pub plan_never : (o : Options) (t : LentTrees) (j : LentJobs) (p : LentPlan) → (plan_call o t j p).answer ≡ plan_refused 0 → ⊥
   pub validate_never : (t : LentTrees) (s : LentSpec) → validate_call t s ≡ validate_refused 0 → ⊥

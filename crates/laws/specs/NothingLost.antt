@@ -4,7 +4,11 @@ use Rattle.std.specs.Prelude.{ℕ, ◌+◌, ◌≡◌, ◌⊎◌, Bool, true, fa
 use mathlib.Core.List.{List, [], ◌∷◌, ◌++◌, map, Memᴰ}
 use Rattle.std.proofs.Math.Option.{some, none}
 use Rattle.rules.specs.Lists.{keep, last_of}
-use Rattle.rules.specs.Tables.{Ulid, same_ulid, ulid_below, Run, Tree, Source, Job, sorted_run, among, run_id, view_id, active, finished, with_status}
+use Rattle.rules.specs.declared.tables.Ulid.{Ulid}
+use Rattle.rules.specs.declared.tables.Run.{Run}
+use Rattle.rules.specs.declared.tables.Source.{Source}
+use Rattle.rules.specs.declared.tables.SourceId.TheVariants.{SortedRun}
+use Rattle.rules.specs.Tables.{same_ulid, ulid_below, Tree, Job, among, run_id, view_id, active, finished, with_status}
 use Rattle.rules.specs.Lent.{LentTrees, LentJobs, trees_of, jobs_of, sources_of}
 use Rattle.rules.specs.Bounds.{good_jobs}
 use Rattle.rules.specs.Validation.{tree_with}
@@ -91,7 +95,7 @@ pub record TreeFinished (j : Job) (out : Run) (t t' : Tree) : Type 0 where
   pub before : List Run
   pub after : List Run
   pub output : t'.runs ≡ before ++ (out ∷ after)
-  pub runs : before ++ after ≡ keep (λ r. not (among (run_id r) (named j ++ (sorted_run j.destination ∷ [])))) t.runs
+  pub runs : before ++ after ≡ keep (λ r. not (among (run_id r) (named j ++ (SortedRun j.destination ∷ [])))) t.runs
 
 -- "Drain: .. source rows go"
 pub record TreeDrained (j : Job) (t t' : Tree) : Type 0 where

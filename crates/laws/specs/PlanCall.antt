@@ -2,7 +2,7 @@
 use Rattle.std.specs.Prelude.{◌+◌, ◌/◌, ◌≤◌, min, ◌≡◌, true, eqb, length, take}
 use mathlib.Core.List.{List, map, Memᴰ}
 use Rattle.rules.specs.declared.Options.{Options}
-use Rattle.rules.specs.declared.PlanAnswer.TheVariants.{Planned}
+use Rattle.rules.specs.Answers.PlanAnswer.{Planned}
 use Rattle.rules.specs.Lists.{keep, distinct, total}
 use Rattle.rules.specs.Tables.{Tree, same_id}
 use Rattle.rules.specs.Lent.{LentTrees, LentJobs, rows_from, trees_of, jobs_of}

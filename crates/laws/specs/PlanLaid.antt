@@ -2,7 +2,7 @@
 use Rattle.std.specs.Prelude.{◌≡◌, length}
 use mathlib.Core.List.{map, Memᴰ}
 use Rattle.rules.specs.declared.Options.{Options}
-use Rattle.rules.specs.declared.ValidateAnswer.TheVariants.{Accepted}
+use Rattle.rules.specs.Answers.ValidateAnswer.{Accepted}
 use Rattle.rules.specs.Lent.{LentTrees, LentJobs}
 use Rattle.rules.specs.Planning.{LentPlan}
 use Rattle.rules.specs.Validation.{LentSpec}

@@ -4,7 +4,8 @@ use Rattle.std.specs.Prelude.{ℕ, ◌≤◌, ◌≡◌, ◌⊎◌, true, eqb, l
 use mathlib.Core.List.{List, ◌++◌, map, Memᴰ}
 use Rattle.rules.specs.declared.Options.{Options}
 use Rattle.rules.specs.Lists.{keep, distinct}
-use Rattle.rules.specs.Tables.{sorted_run, Tree, Job, view_id}
+use Rattle.rules.specs.declared.tables.SourceId.TheVariants.{SortedRun}
+use Rattle.rules.specs.Tables.{Tree, Job, view_id}
 use Rattle.rules.specs.Windows.{last}
 use Rattle.rules.specs.Pick.{Spec, ids_of, oldest}
 use Rattle.rules.specs.Plan.{planned, own_list_of}
@@ -20,7 +21,7 @@ pub record OfRuns (o : Options) (t : Tree) (s : Spec) : Type 0 where
   pub ids : List ℕ
   pub before : List ℕ
   pub after : List ℕ
-  pub sources : s.sources ≡ map sorted_run ids
+  pub sources : s.sources ≡ map SortedRun ids
   pub place : ids_of t.runs ≡ before ++ (ids ++ after)
   pub least : 1 ≤ length ids
   pub most : length ids ≤ o.max

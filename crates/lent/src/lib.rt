@@ -1,7 +1,6 @@
-// The lent tables as records by value, for programs: each public call over them, which hands back the tables that it left.
+// The lent tables as records by value, for programs: their slices, and the calls that change them, in place.
 #![tactic(auto)]
 
 pub mod endings;
 pub mod jobs;
-pub mod planning;
 pub mod trees;

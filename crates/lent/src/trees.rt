@@ -1,8 +1,6 @@
-// The tables of the trees, and validation against them.
-use rules::ValidateAnswer;
-use size_tiered_compaction::validate::validate;
+// The tables of the trees.
 
-#[derive(Clone, Copy)]
+#[derive(Clone, Copy, PartialEq, Eq)]
 pub struct Trees {
     pub count: usize,
     pub rows: [u32; 96],
@@ -14,36 +12,18 @@ pub struct Trees {
     pub run_sizes: [u64; 512],
 }
 
-pub fn validate_spec(
-    trees: Trees,
-    drain: u8,
-    prefix: u32,
-    destination: u32,
-    marks: &[u8],
-    runs: &[u32],
-    views: &[u64],
-) -> ValidateAnswer {
-    let rows = trees.rows;
-    let watermark_marks = trees.watermark_marks;
-    let watermarks = trees.watermarks;
-    let l0_ids = trees.l0_ids;
-    let l0_sizes = trees.l0_sizes;
-    let run_ids = trees.run_ids;
-    let run_sizes = trees.run_sizes;
-    validate(
-        trees.count,
-        &rows,
-        &watermark_marks,
-        &watermarks,
-        &l0_ids,
-        &l0_sizes,
-        &run_ids,
-        &run_sizes,
-        drain,
-        prefix,
-        destination,
-        marks,
-        runs,
-        views,
-    )
+impl Trees {
+    // The slices that a call is lent.
+    pub fn lent(&self) -> rows::trees::Trees<'_> {
+        rows::trees::Trees {
+            count: self.count,
+            rows: &self.rows,
+            watermark_marks: &self.watermark_marks,
+            watermarks: &self.watermarks,
+            l0_ids: &self.l0_ids,
+            l0_sizes: &self.l0_sizes,
+            run_ids: &self.run_ids,
+            run_sizes: &self.run_sizes,
+        }
+    }
 }

@@ -3,7 +3,7 @@ use Prim.Native.Nat.{ℕ, zero, suc, ◌+◌, ◌*◌, ◌≤◌, ◌<◌, suc-l
 use mathlib.Core.Path.{◌≡◌, refl, sym, ap, ◌∙◌}
 use mathlib.Core.List.{List, [], ◌∷◌}
 use mathlib.Core.Bool.{Bool, true, false, cond, not}
-use mathlib.Core.Option.{Option}
+use mathlib.Core.Option.{Option, some, none}
 use native.Mathlib.Nat.{zero-add, add-zero}
 use native.Mathlib.Numerals.{add-one}
 use native.Mathlib.Omega.{arith}
@@ -14,14 +14,15 @@ use lib.Dec.{eqb}
 use lib.ListN.{length, get_or, set, length-set, length-append}
 use lib.Seq.{get_or-set_same, get_or-set_other}
 use Rattle.rules.specs.Lists.{keep, leading, total, concat_map}
+use Rattle.rules.specs.declared.tables.Ulid.{Ulid}
 use Rattle.rules.specs.Tables.{same_ulid, Job}
 use Rattle.rules.specs.Lent.{LentJobs, rows_from, ulid_at, source_at, source_count, job_at, jobs_from, jobs_of, sources_of}
-use Rattle.rules.specs.Jobs.{adoption, adopts}
+use Rattle.rules.specs.Jobs.{job_with, adoption, adopts}
 use Rattle.rules.proofs.Rows.{length-rows_from}
 use Rattle.rules.proofs.Packed.{length-jobs_of, job_is}
 use Rattle.rows.specs.Movers.{marked}
 use Rattle.rows.proofs.Found.{job-found, job-missing}
-use Rattle.merging.specs.Merge.{adopted, not_taken, stays, Flags, AdoptedRow, StaysRow}
+use Rattle.merging.specs.Merge.{adopted, not_taken, stays, Flags}
 
 -- ---- flags that are set one by one: the first i of n say what P asks
 
@@ -52,70 +53,51 @@ module _ {P : ℕ → Bool → Type 0} {n : ℕ} {flags : List ℕ} where
           let e : k ≡ i = omega arith in
           rw (e, get_or-set_same flags i (bool_byte b) 0 (omega (arith, f.room)), marked-bool b) p
 
--- ---- adoption: what a look-up of the local job says
+-- the flags of all jobs
+pub flags-all : (j : LentJobs) (p : Job → Bool) {i : ℕ} {flags : List ℕ} → Flagged (λ k b. (d : Job) → b ≡ p (get_or (jobs_of j) k d)) j.count i flags → j.count ≤ i → Flags p (jobs_of j) flags
+flags-all j p f h = record { room = f.room; says = λ d k m. f.says k (omega (arith, length-jobs_of j)) d }
 
-module _ {count : ℕ} {ids marks remote_ids remote_marks : List ℕ} {i k : ℕ} (e : k ≡ leading (λ u. not (same_ulid u (ulid_at remote_ids (2 * i)))) (rows_from (λ m. ulid_at ids (2 * m)) 0 count)) where
-  pub adopted-known : {b : Bool} → k < count → b ≡ eqb (get_or (get_or adoption (get_or marks (2 * k) 0 + 1) []) (get_or remote_marks (2 * i) 0) 0) 1 → AdoptedRow count ids marks remote_ids remote_marks i b
-  adopted-known h a = record {
-    is = λ l x c li lm xi xs.
-        a
-        ∙ rw (← lm, ← xs, add-one)
-        (sym (ap (λ (o : Option Job). adopts o x) (job-found l x.id k (rw (c, li, xi) e) (rw c h))));
-  }
-
-  pub adopted-absent : {b : Bool} → count ≤ k → b ≡ eqb (get_or (get_or adoption 0 []) (get_or remote_marks (2 * i) 0) 0) 1 → AdoptedRow count ids marks remote_ids remote_marks i b
-  adopted-absent h a = record {
-    is = λ l x c li lm xi xs.
-        a
-        ∙ rw (← xs)
-        (sym (ap (λ (o : Option Job). adopts o x) (job-missing l x.id k (rw (c, li, xi) e) (rw c h))));
-  }
-
--- the flags of all remote jobs
-pub adopted-flags : {count n i : ℕ} {ids marks remote_ids remote_marks flags : List ℕ} (l r : LentJobs) → Flagged (AdoptedRow count ids marks remote_ids remote_marks) n i flags → n ≤ i
-    → l.count ≡ count → l.job_ids ≡ ids → l.job_marks ≡ marks → r.count ≡ n → r.job_ids ≡ remote_ids → r.job_marks ≡ remote_marks → Flags (adopted (jobs_of l)) (jobs_of r) flags
-adopted-flags l r f h c li lm n ri rm = record {
-  room = f.room;
-  says = λ d k m.
-      let here : k < r.count = omega (arith, length-jobs_of r) in
-      let it = job_is r k d here in
-      (f.says k (omega arith)).is l (get_or (jobs_of r) k d) c li lm
-      (ap (λ (x : Job). x.id) it ∙ ap (λ (s : List ℕ). ulid_at s (2 * k)) ri)
-      (ap (λ (x : Job). x.status) it ∙ ap (λ (s : List ℕ). get_or s (2 * k) 0) rm);
-}
-
--- ---- staying: what a look-up of the remote job says
+-- ---- what the look-up of a job's id in the other table says: whether the remote job is adopted, and whether the local one stays
 
 unmarked : (n : ℕ) → eqb n 0 ≡ not (marked n)
 unmarked zero = refl
 unmarked (suc n) = ne_eqb (suc n) 0 (λ e. omega arith)
 
-module _ {ids remote_ids flags : List ℕ} {count i k : ℕ} (e : i ≡ leading (λ u. not (same_ulid u (ulid_at ids (2 * k)))) (rows_from (λ m. ulid_at remote_ids (2 * m)) 0 count)) where
-  pub stays-found : {b : Bool} → i < count → b ≡ eqb (get_or flags i 0) 0 → StaysRow ids count remote_ids flags k b
-  stays-found h a = record {
-    is = λ r p x c ri f xi.
-        let here : i < r.count = omega arith in
-        let d = job_at r 0 0 in
-        a
-        ∙ unmarked (get_or flags i 0)
-        ∙ ap not (f.says d i (omega (arith, length-jobs_of r)) ∙ ap p (job_is r i d here))
-        ∙ sym (ap (not_taken p) (job-found r x.id i (rw (c, ri, xi) e) here));
-  }
+-- job i of table b, looked up in table a
+module _ (a b : LentJobs) (i : ℕ) (h : i < b.count) {k : ℕ} {id : Ulid} (v : id ≡ ulid_at b.job_ids (2 * i)) (e : k ≡ leading (λ u. not (same_ulid u id)) (rows_from (λ m. ulid_at a.job_ids (2 * m)) 0 a.count)) where
+  module _ (d : Job) where
+    abbrev it : Job
+    it = get_or (jobs_of b) i d
 
-  pub stays-missing : count ≤ i → StaysRow ids count remote_ids flags k true
-  stays-missing h = record {
-    is = λ r p x c ri f xi. sym (ap (not_taken p) (job-missing r x.id i (rw (c, ri, xi) e) (rw c h)));
-  }
+    id_is : it.id ≡ id
+    id_is = ap (λ (x : Job). x.id) (job_is b i d h) ∙ sym v
 
--- the flags of all local jobs
-pub stays-flags : {count n k : ℕ} {ids remote_ids flags taken : List ℕ} (l r : LentJobs) (p : Job → Bool) → Flagged (StaysRow ids count remote_ids taken) n k flags → n ≤ k
-    → l.count ≡ n → l.job_ids ≡ ids → r.count ≡ count → r.job_ids ≡ remote_ids → Flags p (jobs_of r) taken → Flags (stays p (jobs_of r)) (jobs_of l) flags
-stays-flags l r p f h n li c ri t = record {
-  room = f.room;
-  says = λ d k m.
-      let here : k < l.count = omega (arith, length-jobs_of l) in
-      (f.says k (omega arith)).is r p (get_or (jobs_of l) k d) c ri t (ap (λ (x : Job). x.id) (job_is l k d here) ∙ ap (λ (s : List ℕ). ulid_at s (2 * k)) li);
-}
+    status_is : it.status ≡ get_or b.job_marks (2 * i) 0
+    status_is = ap (λ (x : Job). x.status) (job_is b i d h)
+
+    known : k < a.count → job_with it.id (jobs_of a) ≡ some (job_at a k (total (rows_from (source_count a) 0 k)))
+    known l = job-found a it.id k (rw id_is e) l
+
+    missing : a.count ≤ k → job_with it.id (jobs_of a) ≡ none
+    missing l = job-missing a it.id k (rw id_is e) l
+
+  -- a remote job in the local table
+  pub adopted-known : {r : Bool} → k < a.count → r ≡ eqb (get_or (get_or adoption (get_or a.job_marks (2 * k) 0 + 1) []) (get_or b.job_marks (2 * i) 0) 0) 1 → (d : Job) → r ≡ adopted (jobs_of a) (it d)
+  adopted-known l r d = r ∙ rw (← status_is d, add-one) (sym (ap (λ (o : Option Job). adopts o (it d)) (known d l)))
+
+  pub adopted-absent : {r : Bool} → a.count ≤ k → r ≡ eqb (get_or (get_or adoption 0 []) (get_or b.job_marks (2 * i) 0) 0) 1 → (d : Job) → r ≡ adopted (jobs_of a) (it d)
+  adopted-absent l r d = r ∙ rw (← status_is d) (sym (ap (λ (o : Option Job). adopts o (it d)) (missing d l)))
+
+  -- a local job in the remote table
+  pub stays-found : {p : Job → Bool} {flags : List ℕ} {r : Bool} → Flags p (jobs_of a) flags → k < a.count → r ≡ eqb (get_or flags k 0) 0 → (d : Job) → r ≡ stays p (jobs_of a) (it d)
+  stays-found {p} {flags} f l r d =
+      r
+      ∙ unmarked (get_or flags k 0)
+      ∙ ap not (f.says d k (omega (arith, length-jobs_of a)) ∙ ap p (job_is a k d l))
+      ∙ sym (ap (not_taken p) (known d l))
+
+  pub stays-missing : (p : Job → Bool) → a.count ≤ k → (d : Job) → true ≡ stays p (jobs_of a) (it d)
+  stays-missing p l d = sym (ap (not_taken p) (missing d l))
 
 -- ---- the sums over the jobs with a flag
 
@@ -155,12 +137,3 @@ module _ (j : LentJobs) {p : Job → Bool} {flags : List ℕ} (f : Flags p (jobs
   pub entries-flagged : total (rows_from (λ k. cond (marked (get_or flags k 0)) (source_count j k) 0) 0 j.count) ≡ length (sources_of (keep p (jobs_of j)))
   unfolding jobs_of
   entries-flagged = entries_from j p flags (job_at j 0 0) 0 0 j.count (λ k h. ap (λ (m : ℕ). marked (get_or flags m 0)) (zero-add k) ∙ f.says (job_at j 0 0) k (omega (arith, length-jobs_of j)))
-
--- what a job with a flag, and one without, adds to a sum
-pub counts : (flag : ℕ) {n : ℕ} → (flag ≡ 0 → ⊥) → n ≡ cond (marked flag) n 0
-counts zero h = absurd (h refl)
-counts (suc flag) h = refl
-
-pub counts-none : (flag n : ℕ) → flag ≡ 0 → 0 ≡ cond (marked flag) n 0
-counts-none zero n h = refl
-counts-none (suc flag) n h = absurd (omega arith)

@@ -1,6 +1,4 @@
 -- Laws that the proofs of merging cite, and those that the job rules cite.
-pub mod Table
-pub mod Adopted
 pub mod Merged
 pub mod Flagged
 pub mod Plans

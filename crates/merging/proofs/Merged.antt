@@ -10,7 +10,8 @@ use borrow.Author.Tests.{not-true}
 use lib.Dec.{ltb}
 use lib.ListN.{length, length-append}
 use Rattle.rules.specs.Lists.{all, keep, first_with, concat_map}
-use Rattle.rules.specs.Tables.{Ulid, same_ulid, ulid_below, Job}
+use Rattle.rules.specs.declared.tables.Ulid.{Ulid}
+use Rattle.rules.specs.Tables.{same_ulid, ulid_below, Job}
 use Rattle.rules.specs.Lent.{sources_of}
 use Rattle.rules.specs.Bounds.{max_jobs, max_sources}
 use Rattle.rules.specs.Jobs.{job_with, inserted, adopts, merged, too_many}

@@ -1,43 +1,30 @@
 -- What merging finds out beforehand is right: the flags, and refusal 14 by the sums over the jobs with a flag.
-use Prim.Native.Nat.{ℕ, ◌+◌, ◌*◌}
-use mathlib.Core.Path.{◌≡◌, sym, ap, ◌∙◌}
+use Prim.Native.Nat.{ℕ, ◌+◌}
+use mathlib.Core.Path.{◌≡◌, ◌∙◌}
 use mathlib.Core.List.{List}
-use mathlib.Core.Bool.{true, cond, ◌||◌}
+use mathlib.Core.Bool.{cond, ◌||◌}
 use lib.Dec.{ltb}
-use lib.ListN.{length, get_or}
-use Rattle.rules.specs.Lists.{keep, linked, total}
-use Rattle.rules.specs.Tables.{ulid_below, Job}
-use Rattle.rules.specs.Lent.{LentJobs, rows_from, ulid_at, jobs_of, sources_of}
+use lib.ListN.{get_or}
+use Rattle.rules.specs.Lists.{total}
+use Rattle.rules.specs.Lent.{LentJobs, rows_from, source_count, jobs_of}
 use Rattle.rules.specs.Bounds.{max_jobs, max_sources}
-use Rattle.rules.proofs.Inserting.{rising}
+use Rattle.rules.specs.Jobs.{merged, too_many}
 use Rattle.rows.specs.Movers.{marked}
-use Rattle.rows.proofs.Shapes.{linked-map, ids-are}
-use Rattle.merging.specs.Merge.{adopted, stays, Flags, GoodRows, HasRows, Planned}
+use Rattle.merging.specs.Merge.{adopted, stays, Flags, GoodRows}
 use Rattle.merging.proofs.Merged.{merged-takes, too_many_lem}
 use Rattle.merging.proofs.Flagged.{jobs-flagged, entries-flagged}
 
--- "Jobs stand in rising id order.", by their ids as they lie in the slice
-rising-rows : (j : LentJobs) → linked ulid_below (rows_from (λ k. ulid_at j.job_ids (2 * k)) 0 j.count) ≡ rising (jobs_of j)
-unfolding jobs_of
-rising-rows j = ap (linked ulid_below) (sym (ids-are j 0 0 j.count)) ∙ linked-map (λ (x : Job). x.id) ulid_below (jobs_of j)
-
-pub rows-rise : {count : ℕ} {ids marks specs : List ℕ} (j : LentJobs) → HasRows j count ids marks specs → GoodRows count ids marks specs → rising (jobs_of j) ≡ true
-rows-rise j h g = sym (rising-rows j) ∙ rw (h.jobs, h.id_rows) g.rises
-
-module _ {count remote_count : ℕ} {ids marks specs remote_ids remote_marks remote_specs taken staying : List ℕ} (l r : LentJobs) (here : HasRows l count ids marks specs) (there : HasRows r remote_count remote_ids remote_marks remote_specs) (good : GoodRows count ids marks specs) (good_there : GoodRows remote_count remote_ids remote_marks remote_specs) where
-  pub planned-merge : {staying_jobs taken_jobs staying_entries taken_entries refusal : ℕ}
+module _ (l r : LentJobs) (good : GoodRows l) (good_there : GoodRows r) {taken staying : List ℕ} where
+  -- refusal 14, by the sums over the jobs with a flag
+  pub planned-fits : {staying_jobs taken_jobs staying_entries taken_entries refusal : ℕ}
       → Flags (adopted (jobs_of l)) (jobs_of r) taken
       → Flags (stays (adopted (jobs_of l)) (jobs_of r)) (jobs_of l) staying
-      → staying_jobs ≡ total (rows_from (λ k. cond (marked (get_or staying k 0)) 1 0) 0 count)
-      → taken_jobs ≡ total (rows_from (λ k. cond (marked (get_or taken k 0)) 1 0) 0 remote_count)
-      → staying_entries ≡ total (rows_from (λ k. cond (marked (get_or staying k 0)) (get_or specs (3 * k + 2) 0) 0) 0 count)
-      → taken_entries ≡ total (rows_from (λ k. cond (marked (get_or taken k 0)) (get_or remote_specs (3 * k + 2) 0) 0) 0 remote_count)
+      → staying_jobs ≡ total (rows_from (λ k. cond (marked (get_or staying k 0)) 1 0) 0 l.count)
+      → taken_jobs ≡ total (rows_from (λ k. cond (marked (get_or taken k 0)) 1 0) 0 r.count)
+      → staying_entries ≡ total (rows_from (λ k. cond (marked (get_or staying k 0)) (source_count l k) 0) 0 l.count)
+      → taken_entries ≡ total (rows_from (λ k. cond (marked (get_or taken k 0)) (source_count r k) 0) 0 r.count)
       → refusal ≡ cond (ltb max_jobs (staying_jobs + taken_jobs) || ltb max_sources (staying_entries + taken_entries)) 14 0
-      → Planned l r refusal taken staying
-  planned-merge {staying_jobs} {taken_jobs} {staying_entries} {taken_entries} t s sj tj se te e =
-      let takes = merged-takes (jobs_of l) (jobs_of r) (rows-rise l here good) (rows-rise r there good_there) in
-      let jobs : staying_jobs ≡ length (keep (stays (adopted (jobs_of l)) (jobs_of r)) (jobs_of l)) = sj ∙ rw (← here.jobs) (jobs-flagged l s) in
-      let more : taken_jobs ≡ length (keep (adopted (jobs_of l)) (jobs_of r)) = tj ∙ rw (← there.jobs) (jobs-flagged r t) in
-      let entries : staying_entries ≡ length (sources_of (keep (stays (adopted (jobs_of l)) (jobs_of r)) (jobs_of l))) = se ∙ rw (← here.jobs, ← here.spec_rows) (entries-flagged l s) in
-      let more_entries : taken_entries ≡ length (sources_of (keep (adopted (jobs_of l)) (jobs_of r))) = te ∙ rw (← there.jobs, ← there.spec_rows) (entries-flagged r t) in
-      record { fits = e ∙ rw (jobs, more, entries, more_entries, too_many_lem takes); takes = t; keeps = s }
+      → refusal ≡ cond (too_many (merged (jobs_of l) (jobs_of r))) 14 0
+  planned-fits t s sj tj se te e =
+      let takes = merged-takes (jobs_of l) (jobs_of r) good.rises good_there.rises in
+      e ∙ rw (sj ∙ jobs-flagged l s, tj ∙ jobs-flagged r t, se ∙ entries-flagged l s, te ∙ entries-flagged r t, too_many_lem takes)

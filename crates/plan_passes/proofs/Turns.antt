@@ -7,17 +7,22 @@ use native.Mathlib.Nat.{sub-zero, not-suc-le-zero}
 use native.Mathlib.Numerals.{add-one}
 use native.Mathlib.Omega.{arith}
 use borrow.Author.Tests.{eq-eqb, ne_eqb}
-use lib.ListN.{length, drop, get_or, drop_of_length-le}
-use lib.Seq.{drop-cons}
+use lib.ListN.{length, drop, get_or, drop_of_length-le, length-map}
+use lib.Seq.{drop-cons, length-take-le}
+use Rattle.std.specs.declared.option.Option as rust
+use Rattle.std.specs.declared.option.Option.TheVariants.{None, Some}
 use Rattle.rules.specs.declared.Options.{Options}
 use Rattle.rules.specs.Tables.{Tree}
+use Rattle.rules.specs.Lent.{LentTrees}
 use Rattle.rules.specs.Plan.{State, ask, pass, Plan, passes_from}
 use Rattle.rules.proofs.Passes.{pass-stops}
-use Rattle.rules.proofs.Rows.{length-rows_from}
-use Rattle.plan_passes.specs.declared.ask.Asked.{Asked}
-use Rattle.tree_pick.specs.Asked.{AskedAt, spec_at, picks_of, state_in}
-use Rattle.plan_passes.specs.Ask.{PicksWithin, Kept, Step}
-use Rattle.plan_passes.specs.Passes.{AskedAll, Plans}
+use Rattle.tree_pick.specs.declared.tree.AskedTree.{AskedTree}
+use Rattle.tree_pick.specs.declared.conflict.UsedIds.{UsedIds}
+use Rattle.tree_pick.specs.Asked.{AskedAt}
+use Rattle.plan_passes.specs.declared.picks.Picks.{Picks}
+use Rattle.plan_passes.specs.Picks.{spec_of, specs_of, PicksWithin, picks_in}
+use Rattle.plan_passes.specs.Ask.{given, fresh_by, state_in, Kept, Step}
+use Rattle.plan_passes.specs.Passes.{AskedAll, Made, Plans}
 
 module _ (lim : ℕ → ℕ) (o : Options) where
   -- ---- a pass
@@ -49,33 +54,35 @@ module _ (lim : ℕ → ℕ) (o : Options) where
         same : suc n - 1 ≡ n
         same = omega arith
 
--- as many specs as rows
-length-picks : (picks l0_ids run_ids : List ℕ) (m : ℕ) → length (picks_of picks l0_ids run_ids m) ≡ m
-unfolding picks_of
-length-picks picks l0_ids run_ids m = length-rows_from (spec_at picks l0_ids run_ids) 0 m
-
 -- ---- as the loops meet them
 
 -- tree i is next in a pass that began with the numbers and tables marked ₀
-pub record Passing (lim : ℕ → ℕ) (o : Options) (asked l0_ids l0_sizes run_ids run_sizes : List ℕ) (count : ℕ) (used₀ picks₀ : List ℕ) (left₀ taken₀ next₀ made₀ : ℕ) (used picks : List ℕ) (left taken next made i : ℕ) : Type 0 where
-  pub used_kept : length used ≡ length used₀
-  pub picks_kept : length picks ≡ length picks₀
-  pub within : i ≤ count
-  pub room : taken + 65 * left ≤ taken₀ + 65 * left₀
-  pub slots : made + left ≡ made₀ + left₀
+pub record Passing (lim : ℕ → ℕ) (o : Options) (asked : List AskedTree) (t : LentTrees) (used₀ : UsedIds) (picks₀ : Picks) (left₀ next₀ : ℕ) (used : UsedIds) (picks : Picks) (left next i : ℕ) : Type 0 where
+  pub used_same : used.keys.ghost_name ≡ used₀.keys.ghost_name
+  pub used_kept : length used.keys.now ≡ length used₀.keys.now
+  pub picks_same : picks.rows.ghost_name ≡ picks₀.rows.ghost_name
+  pub picks_kept : length picks.rows.now ≡ length picks₀.rows.now
+  pub within : i ≤ length asked
+  pub room : used.count + 65 * left ≤ used₀.count + 65 * left₀
+  pub slots : picks.count + left ≡ picks₀.count + left₀
   pub fewer : left ≤ left₀
-  pub placed : PicksWithin picks₀ made₀ → PicksWithin picks made
-  pub goes : (ts : List Tree) → AskedAll asked l0_ids l0_sizes run_ids run_sizes count ts → pass lim o ts (state_in used₀ taken₀ left₀ next₀ picks₀ made₀ l0_ids run_ids) ≡ pass lim o (drop i ts) (state_in used taken left next picks made l0_ids run_ids)
+  pub placed : PicksWithin (picks_in picks₀) → PicksWithin (picks_in picks)
+  pub goes : (ts : List Tree) → AskedAll asked t ts → pass lim o ts (state_in t used₀ left₀ next₀ picks₀) ≡ pass lim o (drop i ts) (state_in t used left next picks)
 
 -- `passes` passes that picked something are over
-pub record Planning (lim : ℕ → ℕ) (o : Options) (asked l0_ids l0_sizes run_ids run_sizes : List ℕ) (count slots n fresh : ℕ) (used₀ picks₀ used picks : List ℕ) (left taken next made passes : ℕ) : Type 0 where
-  pub used_kept : length used ≡ length used₀
-  pub picks_kept : length picks ≡ length picks₀
-  pub room : taken + 65 * left ≤ n + 65 * slots
-  pub held : made + left ≡ slots
+pub record Planning (lim : ℕ → ℕ) (o : Options) (asked : List AskedTree) (t : LentTrees) (slots fresh : ℕ) (used₀ : UsedIds) (picks₀ : Picks) (used : UsedIds) (picks : Picks) (left next passes : ℕ) : Type 0 where
+  pub used_same : used.keys.ghost_name ≡ used₀.keys.ghost_name
+  pub used_kept : length used.keys.now ≡ length used₀.keys.now
+  pub picks_same : picks.rows.ghost_name ≡ picks₀.rows.ghost_name
+  pub picks_kept : length picks.rows.now ≡ length picks₀.rows.now
+  pub room : used.count + 65 * left ≤ used₀.count + 65 * slots
+  pub held : picks.count + left ≡ slots
   pub turns : passes + left ≤ slots
-  pub placed : PicksWithin picks made
-  pub goes : (ts : List Tree) → AskedAll asked l0_ids l0_sizes run_ids run_sizes count ts → passes_from lim o ts slots 0 (state_in used₀ n slots fresh picks₀ 0 l0_ids run_ids) ≡ passes_from lim o ts (slots - passes) passes (state_in used taken left next picks made l0_ids run_ids)
+  pub placed : PicksWithin (picks_in picks)
+  pub goes : (ts : List Tree) → AskedAll asked t ts → passes_from lim o ts slots 0 (state_in t used₀ slots fresh picks₀) ≡ passes_from lim o ts (slots - passes) passes (state_in t used left next picks)
+
+abbrev pub no_asked : AskedTree
+no_asked = record { prefix = 0; l0_from = 0; l0_count = 0; run_from = 0; run_count = 0 }
 
 no_tree : Tree
 no_tree = record {
@@ -85,51 +92,92 @@ no_tree = record {
   runs = [];
 }
 
-module _ {lim : ℕ → ℕ} {o : Options} {asked l0_ids l0_sizes run_ids run_sizes : List ℕ} {count : ℕ} where
-  pub pass-starts : {used picks : List ℕ} {left taken next made : ℕ} → Passing lim o asked l0_ids l0_sizes run_ids run_sizes count used picks left taken next made used picks left taken next made 0
-  pass-starts = record { used_kept = refl; picks_kept = refl; within = omega arith; room = omega arith; slots = refl; fewer = omega arith; placed = λ w. w; goes = λ ts a. refl }
+-- as many specs as picks in use
+length-specs : (t : LentTrees) (picks : Picks) → picks.count ≤ length picks.rows.now → length (specs_of t (picks_in picks)) ≡ picks.count
+length-specs t picks h = length-map (picks_in picks) (spec_of t) ∙ length-take-le picks.count picks.rows.now h
 
-  module _ {used₀ picks₀ : List ℕ} {left₀ taken₀ next₀ made₀ : ℕ} {used picks : List ℕ} {left taken next made i : ℕ} (p : Passing lim o asked l0_ids l0_sizes run_ids run_sizes count used₀ picks₀ left₀ taken₀ next₀ made₀ used picks left taken next made i) where
+module _ {lim : ℕ → ℕ} {o : Options} {asked : List AskedTree} {t : LentTrees} where
+  pub pass-starts : {used : UsedIds} {picks : Picks} {left next : ℕ} → Passing lim o asked t used picks left next used picks left next 0
+  pass-starts = record { used_same = refl; used_kept = refl; picks_same = refl; picks_kept = refl; within = omega arith; room = omega arith; slots = refl; fewer = omega arith; placed = λ w. w; goes = λ ts a. refl }
+
+  module _ {used₀ : UsedIds} {picks₀ : Picks} {left₀ next₀ : ℕ} {used : UsedIds} {picks : Picks} {left next i : ℕ} (p : Passing lim o asked t used₀ picks₀ left₀ next₀ used picks left next i) where
     -- tree i was asked
-    pub pass-next : i < count → (left ≡ 0 → ⊥) → {used' picks' : List ℕ} {x : Asked} → Kept used taken picks made used' x picks' → ((t : Tree) → AskedAt asked l0_ids l0_sizes run_ids run_sizes i t → Step (ask lim o t) used taken next picks made l0_ids run_ids used' x picks') → Passing lim o asked l0_ids l0_sizes run_ids run_sizes count used₀ picks₀ left₀ taken₀ next₀ made₀ used' picks' (left - x.given) x.n x.fresh (made + x.given) (i + 1)
-    pass-next h e k s = record {
-      used_kept = k.used_kept ∙ p.used_kept;
-      picks_kept = k.picks_kept ∙ p.picks_kept;
-      within = omega arith;
-      room = omega (arith, k.once, k.grown, p.room);
-      slots = omega (arith, k.once, p.slots);
-      fewer = omega (arith, p.fewer);
-      placed = λ w. k.within (p.placed w);
-      goes = λ ts a.
-          p.goes ts a
-          ∙ pass-asks lim o ts i no_tree (state_in used taken left next picks made l0_ids run_ids) (omega (arith, a.counted)) e
-          ∙ ap (pass lim o (drop (i + 1) ts)) ((s (get_or ts i no_tree) (a.at i no_tree h)).state left);
-    }
+    pub pass-next : (x : rust.Option ℕ) → i < length asked → (left ≡ 0 → ⊥) → {used' : UsedIds} {picks' : Picks} → Kept used picks x used' picks'
+        → ((tree : Tree) → AskedAt (get_or asked i no_asked) t tree → Step (ask lim o tree) t used next picks x used' picks')
+        → Passing lim o asked t used₀ picks₀ left₀ next₀ used' picks' (left - given x) (fresh_by next x) (i + 1)
+    pass-next x h e k s =
+        let once : given x ≤ 1 = at-most x in
+        record {
+          used_same = k.used_same ∙ p.used_same;
+          used_kept = k.used_kept ∙ p.used_kept;
+          picks_same = k.picks_same ∙ p.picks_same;
+          picks_kept = k.picks_kept ∙ p.picks_kept;
+          within = omega arith;
+          room = omega (arith, once, k.grown, p.room);
+          slots = omega (arith, once, k.counted, p.slots);
+          fewer = omega (arith, p.fewer);
+          placed = λ w. k.within (p.placed w);
+          goes = λ ts a.
+              p.goes ts a
+              ∙ pass-asks lim o ts i no_tree (state_in t used left next picks) (omega (arith, a.counted)) e
+              ∙ ap (pass lim o (drop (i + 1) ts)) ((s (get_or ts i no_tree) (a.at i no_asked no_tree h)).state left);
+        }
+      where
+        at-most : (x : rust.Option ℕ) → given x ≤ 1
+        at-most None = omega arith
+        at-most (Some n) = omega arith
 
     -- every tree was asked, or no slot is left
-    pub pass-over : (count ≤ i) ⊎ (left ≡ 0) → (ts : List Tree) → AskedAll asked l0_ids l0_sizes run_ids run_sizes count ts → pass lim o ts (state_in used₀ taken₀ left₀ next₀ picks₀ made₀ l0_ids run_ids) ≡ state_in used taken left next picks made l0_ids run_ids
+    pub pass-over : (length asked ≤ i) ⊎ (left ≡ 0) → (ts : List Tree) → AskedAll asked t ts → pass lim o ts (state_in t used₀ left₀ next₀ picks₀) ≡ state_in t used left next picks
     pass-over w ts a =
         p.goes ts a
-        ∙ ⊎_elim (λ h. pass-ends lim o ts i (state_in used taken left next picks made l0_ids run_ids) (omega (arith, a.counted)))
-        (λ h. pass-stops lim o (drop i ts) (state_in used taken left next picks made l0_ids run_ids) h) w
+        ∙ ⊎_elim (λ h. pass-ends lim o ts i (state_in t used left next picks) (omega (arith, a.counted)))
+        (λ h. pass-stops lim o (drop i ts) (state_in t used left next picks) h) w
 
-  module _ {slots n fresh : ℕ} {used₀ picks₀ : List ℕ} where
-    pub planning-starts : Planning lim o asked l0_ids l0_sizes run_ids run_sizes count slots n fresh used₀ picks₀ used₀ picks₀ slots n fresh 0 0
-    planning-starts = record { used_kept = refl; picks_kept = refl; room = omega arith; held = omega arith; turns = omega arith; placed = record { at = λ k h. absurd (not-suc-le-zero h) }; goes = λ ts a. rw sub-zero }
+  module _ {slots fresh : ℕ} {used₀ : UsedIds} {picks₀ : Picks} where
+    pub planning-starts : picks₀.count ≡ 0 → Planning lim o asked t slots fresh used₀ picks₀ used₀ picks₀ slots fresh 0
+    planning-starts z = record {
+      used_same = refl;
+      used_kept = refl;
+      picks_same = refl;
+      picks_kept = refl;
+      room = omega arith;
+      held = omega (arith, z);
+      turns = omega arith;
+      placed = record { at = λ k d h. absurd (not-suc-le-zero (rw z at h)) };
+      goes = λ ts a. rw sub-zero;
+    }
 
-    module _ {used picks : List ℕ} {left taken next made passes : ℕ} (p : Planning lim o asked l0_ids l0_sizes run_ids run_sizes count slots n fresh used₀ picks₀ used picks left taken next made passes) {used' picks' : List ℕ} {left' taken' next' made' i : ℕ} (q : Passing lim o asked l0_ids l0_sizes run_ids run_sizes count used picks left taken next made used' picks' left' taken' next' made' i) where
+    module _ {used : UsedIds} {picks : Picks} {left next passes : ℕ} (p : Planning lim o asked t slots fresh used₀ picks₀ used picks left next passes) {used' : UsedIds} {picks' : Picks} {left' next' i : ℕ} (q : Passing lim o asked t used picks left next used' picks' left' next' i) where
       -- "Every slot has room for a pick"
-      pub room-left : (left' ≡ 0 → ⊥) → 4 * (n + 65 * slots) ≤ length used₀ → 5 * slots ≤ length picks₀ → (4 * (taken' + 65) ≤ length used') × (5 * made' + 4 < length picks')
+      pub room-left : (left' ≡ 0 → ⊥) → used₀.count + 65 * slots ≤ length used₀.keys.now → slots ≤ length picks₀.rows.now → (used'.count + 65 ≤ length used'.keys.now) × (picks'.count < length picks'.rows.now)
       room-left e h g =
           (omega (arith, q.used_kept, p.used_kept, q.room, p.room), omega (arith, q.picks_kept, p.picks_kept, q.slots, p.held))
 
-      module _ (w : (count ≤ i) ⊎ (left' ≡ 0)) where
+      pub planning-made : Made used₀ picks₀ slots used' picks'
+      planning-made = record {
+        used_same = q.used_same ∙ p.used_same;
+        picks_same = q.picks_same ∙ p.picks_same;
+        picks_kept = q.picks_kept ∙ p.picks_kept;
+        most = omega (arith, q.slots, p.held);
+        within = q.placed p.placed;
+      }
+
+      module _ (w : (length asked ≤ i) ⊎ (left' ≡ 0)) (g : slots ≤ length picks₀.rows.now) where
+        before : length (specs_of t (picks_in picks)) ≡ picks.count
+        before = length-specs t picks (omega (arith, p.picks_kept, p.held))
+
+        after : length (specs_of t (picks_in picks')) ≡ picks'.count
+        after = length-specs t picks' (omega (arith, q.picks_kept, p.picks_kept, q.slots, p.held))
+
         -- it picked something
-        pub planning-next : (made' ≡ made → ⊥) → Planning lim o asked l0_ids l0_sizes run_ids run_sizes count slots n fresh used₀ picks₀ used' picks' left' taken' next' made' (passes + 1)
+        pub planning-next : (picks'.count ≡ picks.count → ⊥) → Planning lim o asked t slots fresh used₀ picks₀ used' picks' left' next' (passes + 1)
         planning-next e =
             let fuel : slots - passes - 1 ≡ slots - (passes + 1) = omega arith in
             record {
+              used_same = q.used_same ∙ p.used_same;
               used_kept = q.used_kept ∙ p.used_kept;
+              picks_same = q.picks_same ∙ p.picks_same;
               picks_kept = q.picks_kept ∙ p.picks_kept;
               room = omega (arith, q.room, p.room);
               held = omega (arith, q.slots, p.held);
@@ -137,13 +185,13 @@ module _ {lim : ℕ → ℕ} {o : Options} {asked l0_ids l0_sizes run_ids run_si
               placed = q.placed p.placed;
               goes = λ ts a.
                   p.goes ts a
-                  ∙ next-pass lim o ts passes (state_in used taken left next picks made l0_ids run_ids) (state_in used' taken' left' next' picks' made' l0_ids run_ids) (pass-over q w ts a) (slots - passes) (omega (arith, q.slots, q.fewer, p.turns))
-                  (λ g. e (sym (length-picks picks' l0_ids run_ids made') ∙ g ∙ length-picks picks l0_ids run_ids made))
-                  ∙ ap (λ (m : ℕ). passes_from lim o ts m (passes + 1) (state_in used' taken' left' next' picks' made' l0_ids run_ids)) fuel;
+                  ∙ next-pass lim o ts passes (state_in t used left next picks) (state_in t used' left' next' picks') (pass-over q w ts a) (slots - passes) (omega (arith, q.slots, q.fewer, p.turns))
+                  (λ m. e (sym after ∙ m ∙ before))
+                  ∙ ap (λ (m : ℕ). passes_from lim o ts m (passes + 1) (state_in t used' left' next' picks')) fuel;
             }
 
         -- it picked nothing
-        pub planning-ends : made' ≡ made → (ts : List Tree) → AskedAll asked l0_ids l0_sizes run_ids run_sizes count ts → Plans (passes_from lim o ts slots 0 (state_in used₀ n slots fresh picks₀ 0 l0_ids run_ids)) made' passes picks' l0_ids run_ids
+        pub planning-ends : picks'.count ≡ picks.count → (ts : List Tree) → AskedAll asked t ts → Plans (passes_from lim o ts slots 0 (state_in t used₀ slots fresh picks₀)) t passes picks'
         planning-ends e ts a =
-            let end : passes_from lim o ts slots 0 (state_in used₀ n slots fresh picks₀ 0 l0_ids run_ids) ≡ record { specs = picks_of picks' l0_ids run_ids made'; passes = passes } = p.goes ts a ∙ last-pass lim o ts passes (state_in used taken left next picks made l0_ids run_ids) (state_in used' taken' left' next' picks' made' l0_ids run_ids) (pass-over q w ts a) (slots - passes) (omega (arith, p.turns)) (length-picks picks' l0_ids run_ids made' ∙ e ∙ sym (length-picks picks l0_ids run_ids made)) in
+            let end : passes_from lim o ts slots 0 (state_in t used₀ slots fresh picks₀) ≡ record { specs = specs_of t (picks_in picks'); passes = passes } = p.goes ts a ∙ last-pass lim o ts passes (state_in t used left next picks) (state_in t used' left' next' picks') (pass-over q w ts a) (slots - passes) (omega (arith, p.turns)) (after ∙ e ∙ sym before) in
             record { rows = sym (ap (λ (x : Plan). x.specs) end); turns = sym (ap (λ (x : Plan). x.passes) end) }

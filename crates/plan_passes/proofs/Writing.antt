@@ -7,9 +7,10 @@ use native.Mathlib.Omega.{arith}
 use lib.ListN.{length, take, drop, set, length-append, length-drop, length-map, take-append-drop}
 use lib.Seq.{sets, sets-eq, length-take-le, take_at, drop_at, drop-drop}
 use Rattle.rules.specs.Lists.{concat_map}
-use Rattle.rules.specs.Tables.{SourceId, sorted_run, sst_view}
+use Rattle.rules.specs.declared.tables.SourceId.{SourceId}
+use Rattle.rules.specs.declared.tables.SourceId.TheVariants.{SortedRun, SstView}
 use Rattle.rules.specs.Lent.{laid}
-use Rattle.rules.specs.Planning.{mark_of, run_of, view_words}
+use Rattle.rules.specs.Planning.{LentPlan, mark_of, run_of, view_words}
 use Rattle.rules.proofs.Rows.{length-words, concat_map-append}
 use Rattle.rows.proofs.Laying.{grown}
 use Rattle.plan_passes.specs.Lay.{Written, Room, SourcesWritten, SourcesLaid}
@@ -53,12 +54,12 @@ module _ {s : List ℕ} {at : ℕ} {new s₁ : List ℕ} (e : Written s at new s
 
 -- from the front on, as `laid` has it
 pub written-laid : {s new s₁ : List ℕ} → Written s 0 new s₁ → s₁ ≡ laid 0 new s
-written-laid {s} {new} e = e.is ∙ rw zero-add (sym (grown 0 new s (omega arith)))
+written-laid {s} {new} e = e.is ∙ rw zero-add (sym (grown 0 0 new s (omega arith)))
 
 -- ---- sources
 
 -- less room than there is
-pub room-less : {n k : ℕ} {marks runs views : List ℕ} → k ≤ n → Room n marks runs views → Room k marks runs views
+pub room-less : {n k : ℕ} {p : LentPlan} → k ≤ n → Room n p → Room k p
 room-less h r = record {
   of_marks = omega (arith, r.of_marks);
   of_runs = omega (arith, r.of_runs);
@@ -67,36 +68,39 @@ room-less h r = record {
 
 -- two words a view
 view-width : (x : SourceId) → length (view_words x) ≡ 2
-view-width (sorted_run r) = refl
-view-width (sst_view v) = refl
+view-width (SortedRun r) = refl
+view-width (SstView v) = refl
 
 length-views : (ss : List SourceId) → length (concat_map view_words ss) ≡ 2 * length ss
 length-views ss = length-words view_words 2 view-width ss
 
-module _ {marks runs views : List ℕ} {at : ℕ} where
+module _ {p : LentPlan} {at : ℕ} where
   -- nothing yet
-  pub sources-none : Room at marks runs views → SourcesWritten marks runs views at [] marks runs views
+  pub sources-none : Room at p → SourcesWritten p at [] p
   unfolding concat_map
   sources-none r = record {
-    of_marks = written_none marks at r.of_marks;
-    of_runs = written_none runs at r.of_runs;
-    of_views = written_none views (2 * at) r.of_views;
+    of_specs = refl;
+    of_marks = written_none p.marks at r.of_marks;
+    of_runs = written_none p.runs at r.of_runs;
+    of_views = written_none p.views (2 * at) r.of_views;
   }
 
   -- one source, whose view's words are h and l, by a store for each number
-  pub source-put : (x : SourceId) {h l : ℕ} → view_words x ≡ h ∷ l ∷ [] → Room (at + 1) marks runs views → SourcesWritten marks runs views at (x ∷ []) (set marks at (mark_of x)) (set runs at (run_of x)) (set (set views (2 * at) h) (2 * at + 1) l)
+  pub source-put : (x : SourceId) {h l : ℕ} → view_words x ≡ h ∷ l ∷ [] → Room (at + 1) p
+      → SourcesWritten p at (x ∷ []) (record { specs = p.specs; marks = set p.marks at (mark_of x); runs = set p.runs at (run_of x); views = set (set p.views (2 * at) h) (2 * at + 1) l })
   unfolding concat_map
   source-put x {h} {l} e r =
       let next : 2 * at + 1 ≡ suc (2 * at) = omega arith in
       record {
-        of_marks = written_row marks at (mark_of x ∷ []) r.of_marks;
-        of_runs = written_row runs at (run_of x ∷ []) r.of_runs;
-        of_views = rw (e, next) (written_row views (2 * at) (h ∷ l ∷ []) (omega (arith, r.of_views)));
+        of_specs = refl;
+        of_marks = written_row p.marks at (mark_of x ∷ []) r.of_marks;
+        of_runs = written_row p.runs at (run_of x ∷ []) r.of_runs;
+        of_views = rw (e, next) (written_row p.views (2 * at) (h ∷ l ∷ []) (omega (arith, r.of_views)));
       }
 
-  module _ {ss : List SourceId} {marks₁ runs₁ views₁ : List ℕ} (e : SourcesWritten marks runs views at ss marks₁ runs₁ views₁) where
+  module _ {ss : List SourceId} {q : LentPlan} (e : SourcesWritten p at ss q) where
     -- the slices keep their lengths, and so the room that they have
-    pub room-kept : {n : ℕ} → Room n marks runs views → Room n marks₁ runs₁ views₁
+    pub room-kept : {n : ℕ} → Room n p → Room n q
     room-kept r = record {
       of_marks = omega (arith, r.of_marks, written-kept e.of_marks);
       of_runs = omega (arith, r.of_runs, written-kept e.of_runs);
@@ -104,16 +108,18 @@ module _ {marks runs views : List ℕ} {at : ℕ} where
     }
 
     -- more behind them
-    pub sources-more : {at₁ : ℕ} {more : List SourceId} {marks₂ runs₂ views₂ : List ℕ} → at₁ ≡ at + length ss → SourcesWritten marks₁ runs₁ views₁ at₁ more marks₂ runs₂ views₂ → SourcesWritten marks runs views at (ss ++ more) marks₂ runs₂ views₂
-    sources-more {more = more} p g = record {
-      of_marks = rw map-append (written-more e.of_marks (omega (arith, p, length-map ss mark_of)) g.of_marks);
-      of_runs = rw map-append (written-more e.of_runs (omega (arith, p, length-map ss run_of)) g.of_runs);
-      of_views = rw (concat_map-append view_words ss more) (written-more e.of_views (omega (arith, p, length-views ss)) g.of_views);
+    pub sources-more : {at₁ : ℕ} {more : List SourceId} {q₁ : LentPlan} → at₁ ≡ at + length ss → SourcesWritten q at₁ more q₁ → SourcesWritten p at (ss ++ more) q₁
+    sources-more {more = more} s g = record {
+      of_specs = g.of_specs ∙ e.of_specs;
+      of_marks = rw map-append (written-more e.of_marks (omega (arith, s, length-map ss mark_of)) g.of_marks);
+      of_runs = rw map-append (written-more e.of_runs (omega (arith, s, length-map ss run_of)) g.of_runs);
+      of_views = rw (concat_map-append view_words ss more) (written-more e.of_views (omega (arith, s, length-views ss)) g.of_views);
     }
 
 -- from the front on, as `lay_plan` has them
-pub sources-laid : {marks runs views : List ℕ} {ss : List SourceId} {marks₁ runs₁ views₁ : List ℕ} → SourcesWritten marks runs views 0 ss marks₁ runs₁ views₁ → SourcesLaid marks runs views ss marks₁ runs₁ views₁
+pub sources-laid : {p q : LentPlan} {ss : List SourceId} → SourcesWritten p 0 ss q → SourcesLaid p ss q
 sources-laid e = record {
+  of_specs = e.of_specs;
   of_marks = written-laid e.of_marks;
   of_runs = written-laid e.of_runs;
   of_views = written-laid e.of_views;

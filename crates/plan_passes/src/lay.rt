@@ -1,165 +1,84 @@
 // The picks of a call are laid into the lent plan: "Places of the plan beyond the answer keep their bytes."
-ghost use Rattle.std.specs.Prelude.{◌≡◌, List, [], ◌∷◌, ℕ, ◌+◌, ◌*◌, ◌<◌, ◌≤◌, cond, eqb, length, get_or};
-ghost use Rattle.rules.specs.Lists.{concat_map};
-ghost use Rattle.rules.specs.Tables.{sorted_run, sst_view};
-ghost use Rattle.rules.specs.Lent.{laid};
-ghost use Rattle.rules.specs.Bounds.{max_l0, max_runs};
-ghost use Rattle.rules.specs.Planning.{spec_words, spec_sources};
-ghost use Rattle.tree_pick.specs.Pick.{views_in, runs_in};
-ghost use Rattle.tree_pick.specs.Asked.{spec_at, picks_of};
-ghost use Rattle.plan_passes.specs.Ask.{PicksWithin};
-ghost use Rattle.plan_passes.specs.Lay.{Room, SourcesWritten, SourcesLaid};
+ghost use Rattle.std.specs.Prelude.{◌≡◌, [], ◌∷◌, ◌+◌, ◌*◌, ◌≤◌, length};
+ghost use Rattle.rules.specs.Lent.{LentTrees};
+ghost use Rattle.rules.specs.Planning.{spec_sources};
+ghost use Rattle.rows.specs.InSlices.{trees_in};
+ghost use Rattle.plan_passes.specs.Picks.{spec_of, specs_of, SourcesLent, PickWithin, PicksWithin};
+ghost use Rattle.plan_passes.specs.Lay.{plan_in, SameTable, Room, SpecsLaid, SourcesWritten, SourcesLaid};
 
-use rows::bounds::wide;
+use crate::picks::PickRow;
+use rows::trees::Trees;
+use rules::tables::SourceId;
 
-// Prefix, destination and source count of each pick.
-pub fn lay_specs(picks: &[u32], m: usize, plan_specs: &mut [u32])
-    requires { (5 * m ≤ length picks.now) × (3 * m ≤ length plan_specs.old) }
-    ensures { (l0_ids run_ids : List ℕ) → plan_specs.new ≡ laid 0 (concat_map spec_words (picks_of picks.now l0_ids run_ids m)) plan_specs.old }
-{
-    let mut k = 0;
-    while k < m {
-        let from = 5 * k;
-        let to = 3 * k;
-        let prefix = picks[from];
-        let destination = picks[from + 1];
-        let sources = picks[from + 4];
-        plan_specs[to] = prefix;
-        plan_specs[to + 1] = destination;
-        plan_specs[to + 2] = sources;
-        k += 1;
+// The plan as a call is lent it: three numbers a spec, and for each source of each a mark, a run and the two words of a view.
+#[derive(Drop)]
+pub struct PlanTable<'a> {
+    pub specs: &'a mut [u32],
+    pub marks: &'a mut [u8],
+    pub runs: &'a mut [u32],
+    pub views: &'a mut [u64],
+}
+
+impl PlanTable<'_> {
+    // Prefix, destination and source count of each pick.
+    pub fn lay_specs(&mut self, picks: &[PickRow])
+        requires { 3 * length picks.now ≤ length self.old.specs.now }
+        ensures same { SameTable self.old self.new }
+        ensures laid { (t : LentTrees) → SpecsLaid (plan_in self.old) (specs_of t picks.now) (plan_in self.new) }
+    {
+        for k in 0..picks.len() {
+            let pick = picks[k];
+            let to = 3 * k;
+            self.specs[to] = pick.prefix;
+            self.specs[to + 1] = pick.destination;
+            self.specs[to + 2] = pick.count;
+        }
     }
-}
 
-// A run as source `at`. Its view is idle, and zeros.
-fn put_run(
-    run: u32,
-    at: usize,
-    plan_marks: &mut [u8],
-    plan_runs: &mut [u32],
-    plan_views: &mut [u64],
-)
-    requires { Room (at + 1) plan_marks.old plan_runs.old plan_views.old }
-    ensures { SourcesWritten plan_marks.old plan_runs.old plan_views.old at (sorted_run run ∷ []) plan_marks.new plan_runs.new plan_views.new }
-{
-    let v = 2 * at;
-    plan_marks[at] = 1;
-    plan_runs[at] = run;
-    plan_views[v] = 0;
-    plan_views[v + 1] = 0;
-}
-
-// A view as source `at`. Its run is idle, and zero.
-fn put_view(
-    high: u64,
-    low: u64,
-    at: usize,
-    plan_marks: &mut [u8],
-    plan_runs: &mut [u32],
-    plan_views: &mut [u64],
-)
-    requires { Room (at + 1) plan_marks.old plan_runs.old plan_views.old }
-    ensures { SourcesWritten plan_marks.old plan_runs.old plan_views.old at (sst_view (record { high = high; low = low }) ∷ []) plan_marks.new plan_runs.new plan_views.new }
-{
-    let v = 2 * at;
-    plan_marks[at] = 0;
-    plan_runs[at] = 0;
-    plan_views[v] = high;
-    plan_views[v + 1] = low;
-}
-
-// `count` runs as the sources from `at` on.
-fn lay_runs(
-    run_ids: &[u32],
-    from: usize,
-    count: usize,
-    at: usize,
-    plan_marks: &mut [u8],
-    plan_runs: &mut [u32],
-    plan_views: &mut [u64],
-)
-    requires { (from + count ≤ length run_ids.now) × Room (at + count) plan_marks.old plan_runs.old plan_views.old }
-    ensures { SourcesWritten plan_marks.old plan_runs.old plan_views.old at (runs_in run_ids.now from count) plan_marks.new plan_runs.new plan_views.new }
-{
-    let mut k = 0;
-    while k < count {
-        put_run(run_ids[from + k], at + k, plan_marks, plan_runs, plan_views);
-        k += 1;
+    // One source, at place `at`. What its mark makes idle is zeros.
+    fn put(&mut self, at: usize, source: SourceId)
+        requires { Room (at + 1) (plan_in self.old) }
+        ensures same { SameTable self.old self.new }
+        ensures put { SourcesWritten (plan_in self.old) at (source ∷ []) (plan_in self.new) }
+    {
+        let v = 2 * at;
+        match source {
+            SourceId::SortedRun(run) => {
+                self.marks[at] = 1;
+                self.runs[at] = run;
+                self.views[v] = 0;
+                self.views[v + 1] = 0;
+            }
+            SourceId::SstView(view) => {
+                self.marks[at] = 0;
+                self.runs[at] = 0;
+                self.views[v] = view.high;
+                self.views[v + 1] = view.low;
+            }
+        }
     }
-}
 
-// The views of `count` L0 rows as the sources from `at` on.
-fn lay_views(
-    l0_ids: &[u64],
-    from: usize,
-    count: usize,
-    at: usize,
-    plan_marks: &mut [u8],
-    plan_runs: &mut [u32],
-    plan_views: &mut [u64],
-)
-    requires { (4 * (from + count) ≤ length l0_ids.now) × Room (at + count) plan_marks.old plan_runs.old plan_views.old }
-    ensures { SourcesWritten plan_marks.old plan_runs.old plan_views.old at (views_in l0_ids.now from count) plan_marks.new plan_runs.new plan_views.new }
-{
-    let mut k = 0;
-    while k < count {
-        let i = 4 * (from + k);
-        put_view(
-            l0_ids[i],
-            l0_ids[i + 1],
-            at + k,
-            plan_marks,
-            plan_runs,
-            plan_views,
-        );
-        k += 1;
+    // The sources of a pick, from source `at` on; the answer is the place behind them.
+    fn lay_pick(&mut self, at: usize, pick: PickRow, trees: &Trees) -> usize
+        requires { PickWithin pick × SourcesLent (trees_in trees.now) × Room (at + pick.count) (plan_in self.old) }
+        ensures same { SameTable self.old self.new }
+        ensures laid { (result ≡ at + pick.count) × SourcesWritten (plan_in self.old) at (spec_of (trees_in trees.now) pick).sources (plan_in self.new) }
+    {
+        for k in 0..pick.count as usize {
+            self.put(at + k, pick.source(k, trees));
+        }
+        at + pick.count as usize
     }
-}
 
-// The sources of pick `k`, from source `at` on; the answer is the place behind them.
-fn lay_pick(
-    picks: &[u32],
-    k: usize,
-    l0_ids: &[u64],
-    run_ids: &[u32],
-    at: usize,
-    plan_marks: &mut [u8],
-    plan_runs: &mut [u32],
-    plan_views: &mut [u64],
-) -> usize
-    requires { (5 * k + 4 < length picks.now) × (get_or picks.now (5 * k + 3) 0 + get_or picks.now (5 * k + 4) 0 ≤ cond (eqb (get_or picks.now (5 * k + 2) 0) 1) max_runs max_l0) × (4 * max_l0 ≤ length l0_ids.now) × (max_runs ≤ length run_ids.now) × Room (at + get_or picks.now (5 * k + 4) 0) plan_marks.old plan_runs.old plan_views.old }
-    ensures { (result ≡ at + get_or picks.now (5 * k + 4) 0) × SourcesWritten plan_marks.old plan_runs.old plan_views.old at (spec_at picks.now l0_ids.now run_ids.now k).sources plan_marks.new plan_runs.new plan_views.new }
-{
-    let p = 5 * k;
-    let from = wide(picks[p + 3]);
-    let count = wide(picks[p + 4]);
-    if picks[p + 2] == 1 {
-        lay_runs(run_ids, from, count, at, plan_marks, plan_runs, plan_views);
-        return at + count;
-    }
-    lay_views(l0_ids, from, count, at, plan_marks, plan_runs, plan_views);
-    at + count
-}
-
-// The sources of the picks, one pick after another.
-pub fn lay_sources(
-    picks: &[u32],
-    m: usize,
-    l0_ids: &[u64],
-    run_ids: &[u32],
-    plan_marks: &mut [u8],
-    plan_runs: &mut [u32],
-    plan_views: &mut [u64],
-)
-    requires { (5 * m ≤ length picks.now) × PicksWithin picks.now m × (4 * max_l0 ≤ length l0_ids.now) × (max_runs ≤ length run_ids.now) × Room (length (spec_sources (picks_of picks.now l0_ids.now run_ids.now m))) plan_marks.old plan_runs.old plan_views.old }
-    ensures { SourcesLaid plan_marks.old plan_runs.old plan_views.old (spec_sources (picks_of picks.now l0_ids.now run_ids.now m)) plan_marks.new plan_runs.new plan_views.new }
-{
-    let mut at = 0;
-    let mut k = 0;
-    while k < m {
-        at = lay_pick(
-            picks, k, l0_ids, run_ids, at, plan_marks, plan_runs, plan_views,
-        );
-        k += 1;
+    // The sources of the picks, one pick after another.
+    pub fn lay_sources(&mut self, picks: &[PickRow], trees: &Trees)
+        requires { PicksWithin picks.now × SourcesLent (trees_in trees.now) × Room (length (spec_sources (specs_of (trees_in trees.now) picks.now))) (plan_in self.old) }
+        ensures same { SameTable self.old self.new }
+        ensures laid { SourcesLaid (plan_in self.old) (spec_sources (specs_of (trees_in trees.now) picks.now)) (plan_in self.new) }
+    {
+        let mut at = 0;
+        for k in 0..picks.len() {
+            at = self.lay_pick(at, picks[k], trees);
+        }
     }
 }

@@ -4,3 +4,4 @@
 pub mod ask;
 pub mod lay;
 pub mod passes;
+pub mod picks;

@@ -30,16 +30,13 @@ module _ (j : LentJobs) (specs : List ℕ) (p : Job → Bool) (g : Job → ℕ) 
       go true xs ys e = ap₂ ◌∷◌ (same-g i s) e
       go false xs ys e = e
 
-module _ (j : LentJobs) {count : ℕ} {marks : List ℕ} (n : j.count ≡ count) (m : j.job_marks ≡ marks) where
+module _ (j : LentJobs) where
   -- the jobs that hold slots, by their marks
-  pub held-bare : length (keep holds_slot (jobs_of j)) ≡ length (keep holds_slot (rows_from (bare_job marks []) 0 count))
+  pub held-bare : length (keep holds_slot (jobs_of j)) ≡ length (keep holds_slot (rows_from (bare_job j.job_marks []) 0 j.count))
   unfolding jobs_of
-  held-bare =
-      rw (← n, ← m)
-      (simp length-map at (ap length (kept-bare j [] holds_slot (λ x. x.status) (λ i s. refl) (λ i s. refl) 0 0 j.count)))
+  held-bare = simp length-map at (ap length (kept-bare j [] holds_slot (λ x. x.status) (λ i s. refl) (λ i s. refl) 0 0 j.count))
 
   -- the active destinations, by marks and specs
-  pub destinations-bare : {specs : List ℕ} → j.job_specs ≡ specs → map (λ x. x.destination) (keep (λ x. active x && not (is_drain x)) (jobs_of j)) ≡ map (λ x. x.destination) (keep (λ x. active x && not (is_drain x)) (rows_from (bare_job marks specs) 0 count))
+  pub destinations-bare : map (λ x. x.destination) (keep (λ x. active x && not (is_drain x)) (jobs_of j)) ≡ map (λ x. x.destination) (keep (λ x. active x && not (is_drain x)) (rows_from (bare_job j.job_marks j.job_specs) 0 j.count))
   unfolding jobs_of
-  destinations-bare s =
-      rw (← n, ← m, ← s) (kept-bare j j.job_specs (λ x. active x && not (is_drain x)) (λ x. x.destination) (λ i s. refl) (λ i s. refl) 0 0 j.count)
+  destinations-bare = kept-bare j j.job_specs (λ x. active x && not (is_drain x)) (λ x. x.destination) (λ i s. refl) (λ i s. refl) 0 0 j.count

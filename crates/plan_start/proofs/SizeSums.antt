@@ -9,7 +9,8 @@ use lib.Dec.{leb}
 use lib.ListN.{length, get_or, take, drop}
 use borrow.Author.Tests.{le-leb, lt-leb, leb-false}
 use Rattle.rules.specs.Lists.{any, total}
-use Rattle.rules.specs.Tables.{L0Row, Run}
+use Rattle.rules.specs.declared.tables.Run.{Run}
+use Rattle.rules.specs.Tables.{L0Row}
 use Rattle.rules.specs.Lent.{LentTrees, rows_from, l0_at, run_at, l0_count, run_count, trees_from, trees_of, l0_used, runs_used}
 use Rattle.rules.specs.Planning.{sizes_over}
 use Rattle.rules.proofs.Rows.{rows_are, rows_next, part-is, map-rows_from}
@@ -18,13 +19,13 @@ use Rattle.rows.proofs.Sums.{Summed, sum-starts, sum-next, sum-ends}
 use Rattle.plan_start.specs.Sizes.{over_from}
 
 -- a slice is its own rows
-whole : (s : List ℕ) → rows_from (λ k. get_or s k 0) 0 (length s) ≡ s
+pub whole : (s : List ℕ) → rows_from (λ k. get_or s k 0) 0 (length s) ≡ s
 whole s = rows_are (λ k. get_or s k 0) 0 0 s (λ k h. ap (λ (n : ℕ). get_or s n 0) (zero-add k))
 
 -- ---- one sum
 module _ (s : List ℕ) where
   -- one size more is too much
-  pub sum-is-over : (sum i : ℕ) → i < length s → Summed (λ k. get_or s k 0) (length s) sum i → 2 ^ 64 - 1 - sum < get_or s i 0 → true ≡ leb (2 ^ 64) (total s)
+  pub sum-is-over : (sum i : ℕ) → i < length s → Summed (λ k. get_or s k 0) (length s) sum i → 2 ^ 64 ≤ sum + get_or s i 0 → true ≡ leb (2 ^ 64) (total s)
   unfolding total
   sum-is-over sum i h e o = sym (le-leb (2 ^ 64) (total s) (omega (arith, ap total (whole s), ap total (rows_next (λ (k : ℕ). get_or s k 0) i (length s) h), e)))
 

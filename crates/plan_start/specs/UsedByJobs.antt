@@ -1,10 +1,16 @@
 -- The keys of the ids that jobs use, and the table that holds them.
-use Rattle.std.specs.Prelude.{ℕ, ◌+◌, ◌*◌, ◌≤◌, ◌≡◌, List, [], ◌++◌, map, cond, length, get_or}
+use Rattle.std.specs.Prelude.{ℕ, ◌+◌, ◌*◌, ◌≤◌, ◌≡◌, List, [], ◌++◌, map, cond, length}
 use Rattle.rules.specs.Lists.{total}
-use Rattle.rules.specs.Tables.{SourceId, Source, Job, among, id_of, active}
-use Rattle.rules.specs.Lent.{LentJobs, rows_from, jobs_of, sources_used}
+use Rattle.rules.specs.declared.tables.SourceId.{SourceId}
+use Rattle.rules.specs.declared.tables.Source.{Source}
+use Rattle.rules.specs.Tables.{Job, among, id_of, active}
+use Rattle.rules.specs.Lent.{LentJobs, rows_from, jobs_of, source_count, sources_used}
 use Rattle.rules.specs.Windows.{job_uses, used_ids}
-use Rattle.tree_pick.specs.Conflict.{Key, key_of, keys_of, used_in}
+use Rattle.rows.specs.declared.jobs.Jobs.{Jobs}
+use Rattle.rows.specs.InSlices.{jobs_in}
+use Rattle.tree_pick.specs.declared.conflict.Key.{Key}
+use Rattle.tree_pick.specs.declared.conflict.UsedIds.{UsedIds}
+use Rattle.tree_pick.specs.Conflict.{key_of, keys_in, used_in}
 
 unfoldable pub source_keys : ℕ → List Source → List Key
 source_keys prefix ss = map (key_of prefix) (map id_of ss)
@@ -13,26 +19,27 @@ source_keys prefix ss = map (key_of prefix) (map id_of ss)
 unfoldable pub job_keys : Job → List Key
 job_keys j = cond (active j) (map (key_of j.prefix) (job_uses j)) []
 
--- these keys more, after the first n: m keys then
-pub record AddedAll (before : List ℕ) (n : ℕ) (keys : List Key) (after : List ℕ) (m : ℕ) : Type 0 where
-  pub counted : m ≡ n + length keys
-  pub rows : keys_of after m ≡ keys_of before n ++ keys
-  pub kept : length after ≡ length before
+-- these keys more
+pub record AddedAll (before : UsedIds) (keys : List Key) (after : UsedIds) : Type 0 where
+  pub same : after.keys.ghost_name ≡ before.keys.ghost_name
+  pub kept : length after.keys.now ≡ length before.keys.now
+  pub counted : after.count ≡ before.count + length keys
+  pub rows : keys_in after ≡ keys_in before ++ keys
 
--- how many source entries the first `count` specs have
-abbrev pub sources_in : List ℕ → ℕ → ℕ
-sources_in specs count = total (rows_from (λ i. get_or specs (3 * i + 2) 0) 0 count)
+-- how many source entries these jobs have
+abbrev pub entries : Jobs → ℕ
+entries j = total (rows_from (source_count (jobs_in j)) 0 j.count)
 
 -- the rows that so many jobs need, and a row of used ids for each of their sources and destinations
-pub record JobRoom (count : ℕ) (marks specs source_marks source_runs source_views used : List ℕ) : Type 0 where
-  pub marked : 2 * count ≤ length marks
-  pub specified : 3 * count ≤ length specs
-  pub sources : sources_in specs count ≤ length source_marks
-  pub runs : sources_in specs count ≤ length source_runs
-  pub views : 2 * sources_in specs count ≤ length source_views
-  pub room : 4 * (sources_in specs count + count) ≤ length used
+pub record JobRoom (j : Jobs) (rows : ℕ) : Type 0 where
+  pub marked : 2 * j.count ≤ length j.marks.now
+  pub specified : 3 * j.count ≤ length j.specs.now
+  pub sources : entries j ≤ length j.sources.marks.now
+  pub runs : entries j ≤ length j.sources.runs.now
+  pub views : 2 * entries j ≤ length j.sources.views.now
+  pub room : entries j + j.count ≤ rows
 
--- the first n keys are the used ids of every tree
-pub record UsedByJobs (j : LentJobs) (used : List ℕ) (n : ℕ) : Type 0 where
-  pub uses : (prefix : ℕ) (x : SourceId) → used_in (keys_of used n) prefix x ≡ among x (used_ids (jobs_of j) prefix)
-  pub within : n ≤ sources_used j + j.count
+-- the keys in use are the used ids of every tree
+pub record UsedByJobs (j : LentJobs) (used : UsedIds) : Type 0 where
+  pub uses : (prefix : ℕ) (x : SourceId) → used_in (keys_in used) prefix x ≡ among x (used_ids (jobs_of j) prefix)
+  pub within : used.count ≤ sources_used j + j.count

@@ -1,82 +1,57 @@
 // The first fresh run number: slatedb's next_global_sr_id.
-ghost use Rattle.std.specs.Prelude.{◌≡◌, map, ◌&&◌, not, ◌+◌, ◌*◌, ◌≤◌, ◌<◌, max, eqb, leb, length, get_or};
+ghost use Rattle.std.specs.Prelude.{◌≡◌, map, ◌&&◌, not, ◌+◌, ◌*◌, ◌≤◌, ◌<◌, eqb, leb, length, get_or};
 ghost use Rattle.rules.specs.Lists.{keep, one_above};
 ghost use Rattle.rules.specs.Tables.{active, is_drain};
-ghost use Rattle.rules.specs.Lent.{LentTrees, LentJobs, rows_from, runs_used, trees_of, jobs_of};
+ghost use Rattle.rules.specs.Lent.{LentTrees, runs_used, trees_of, jobs_of};
 ghost use Rattle.rules.specs.Plan.{first_fresh};
+ghost use Rattle.rows.specs.InSlices.{jobs_in};
 
-use rows::bounds::wide;
+use rows::jobs::Jobs;
+use rows::trees::Trees;
 use rules::LAST_RUN;
-
-fn larger(a: usize, b: usize) -> usize
-    ensures { result ≡ max a b }
-{
-    if a < b {
-        return b;
-    }
-    a
-}
+use rules::tables::{Kind, Status};
 
 // "one above the largest of all committed run ids", 0 if there are none: of a wider type, since it is
 // stopped only in the end.
-fn above_runs(runs: usize, run_ids: &[u32]) -> usize
-    requires { runs ≤ length run_ids.now }
-    ensures { result ≡ one_above (rows_from (λ i. get_or run_ids.now i 0) 0 runs) }
+fn above_runs(run_ids: &[u32]) -> usize
+    ensures { result ≡ one_above run_ids.now }
 {
     let mut above: usize = 0;
-    let mut i = 0;
-    while i < runs {
-        above = larger(above, wide(run_ids[i]) + 1);
-        i += 1;
+    for id in run_ids {
+        above = above.max(*id as usize + 1);
     }
     above
 }
 
 // A drain has no destination.
-fn has_active_destination(job_marks: &[u8], i: usize) -> bool
-    requires { 2 * i + 1 < length job_marks.now }
-    ensures { result ≡ (leb (get_or job_marks.now (2 * i) 0) 3 && not (eqb (get_or job_marks.now (2 * i + 1) 0) 1)) }
+fn has_active_destination(jobs: &Jobs, i: usize) -> bool
+    requires { 2 * i + 1 < length jobs.now.marks.now }
+    ensures { result ≡ (leb (get_or jobs.now.marks.now (2 * i) 0) 3 && not (eqb (get_or jobs.now.marks.now (2 * i + 1) 0) 1)) }
 {
-    if 3 < job_marks[2 * i] {
-        return false;
-    }
-    job_marks[2 * i + 1] != 1
+    jobs.marks[2 * i] <= Status::Compacted as u8 && jobs.marks[2 * i + 1] != Kind::Drain as u8
 }
 
 // "active destinations", of tiered jobs, one above the largest; "Active sources do not count here."
-fn above_destinations(count: usize, job_marks: &[u8], job_specs: &[u32]) -> usize
-    requires { (2 * count ≤ length job_marks.now) × (3 * count ≤ length job_specs.now) }
-    ensures { (j : LentJobs) → j.count ≡ count → j.job_marks ≡ job_marks.now → j.job_specs ≡ job_specs.now → result ≡ one_above (map (λ x. x.destination) (keep (λ x. active x && not (is_drain x)) (jobs_of j))) }
+fn above_destinations(jobs: &Jobs) -> usize
+    requires { (2 * jobs.now.count ≤ length jobs.now.marks.now) × (3 * jobs.now.count ≤ length jobs.now.specs.now) }
+    ensures { result ≡ one_above (map (λ x. x.destination) (keep (λ x. active x && not (is_drain x)) (jobs_of (jobs_in jobs.now)))) }
 {
     let mut above: usize = 0;
-    let mut i = 0;
-    while i < count {
-        if has_active_destination(job_marks, i) {
-            above = larger(above, wide(job_specs[3 * i + 1]) + 1);
+    for i in 0..jobs.count {
+        if has_active_destination(jobs, i) {
+            above = above.max(jobs.specs[3 * i + 1] as usize + 1);
         }
-        i += 1;
     }
     above
 }
 
 // "The first fresh number is one above the largest of all committed run ids and active destinations, 0 if there are none,
-// and stops at 4,294,967,295."
-pub fn first_fresh(
-    runs: usize,
-    run_ids: &[u32],
-    count: usize,
-    job_marks: &[u8],
-    job_specs: &[u32],
-) -> u32
-    requires { (runs ≤ length run_ids.now) × (2 * count ≤ length job_marks.now) × (3 * count ≤ length job_specs.now) }
-    ensures { (t : LentTrees) (j : LentJobs) → runs_used t ≡ runs → t.run_ids ≡ run_ids.now → j.count ≡ count → j.job_marks ≡ job_marks.now → j.job_specs ≡ job_specs.now → result ≡ first_fresh (trees_of t) (jobs_of j) }
+// and stops at 4,294,967,295.": of trees that have `runs` runs in all.
+pub fn first_fresh(trees: &Trees, runs: usize, jobs: &Jobs) -> u32
+    requires { (runs ≤ length trees.now.run_ids.now) × (2 * jobs.now.count ≤ length jobs.now.marks.now) × (3 * jobs.now.count ≤ length jobs.now.specs.now) }
+    ensures { (t : LentTrees) → runs_used t ≡ runs → t.run_ids ≡ trees.now.run_ids.now → result ≡ first_fresh (trees_of t) (jobs_of (jobs_in jobs.now)) }
 {
-    let fresh = larger(
-        above_runs(runs, run_ids),
-        above_destinations(count, job_marks, job_specs),
-    );
-    if fresh < wide(LAST_RUN) {
-        return fresh as u32;
-    }
-    LAST_RUN
+    let committed = above_runs(&trees.run_ids[..runs]);
+    let fresh = committed.max(above_destinations(jobs));
+    fresh.min(LAST_RUN as usize) as u32
 }

@@ -2,37 +2,33 @@
 ghost use Rattle.std.specs.Prelude.{◌≡◌, ◌*◌, ◌≤◌, length};
 ghost use Rattle.rules.specs.Lists.{keep};
 ghost use Rattle.rules.specs.Tables.{holds_slot};
-ghost use Rattle.rules.specs.Lent.{LentJobs, jobs_of};
+ghost use Rattle.rules.specs.Lent.{jobs_of};
 ghost use Rattle.rules.specs.Plan.{free_slots};
+ghost use Rattle.rows.specs.InSlices.{jobs_in};
 
-use rows::bounds::wide;
+use rows::jobs::Jobs;
 use rules::Options;
+use rules::tables::Status;
 
 // "Slots are held by 0, 1, 2.": "Counting Compacted against slots" is a mistake.
-fn slots_held(count: usize, job_marks: &[u8]) -> usize
-    requires { 2 * count ≤ length job_marks.now }
-    ensures { (j : LentJobs) → j.count ≡ count → j.job_marks ≡ job_marks.now → result ≡ length (keep holds_slot (jobs_of j)) }
+fn slots_held(jobs: &Jobs) -> usize
+    requires { 2 * jobs.now.count ≤ length jobs.now.marks.now }
+    ensures { result ≡ length (keep holds_slot (jobs_of (jobs_in jobs.now))) }
 {
     let mut held: usize = 0;
-    let mut i = 0;
-    while i < count {
-        if job_marks[2 * i] <= 2 {
+    for i in 0..jobs.count {
+        if jobs.marks[2 * i] <= Status::Running as u8 {
             held += 1;
         }
-        i += 1;
     }
     held
 }
 
 // "F is the concurrent limit less the slots held, 0 if negative."
-pub fn free_slots(o: Options, count: usize, job_marks: &[u8]) -> usize
-    requires { 2 * count ≤ length job_marks.now }
-    ensures { (j : LentJobs) → j.count ≡ count → j.job_marks ≡ job_marks.now → result ≡ free_slots o (jobs_of j) }
+#[tactic(auto, unfolding(rules::specs::Plan::free_slots))]
+pub fn free_slots(o: Options, jobs: &Jobs) -> usize
+    requires { 2 * jobs.now.count ≤ length jobs.now.marks.now }
+    ensures { result ≡ free_slots o (jobs_of (jobs_in jobs.now)) }
 {
-    let most = wide(o.concurrent);
-    let held = slots_held(count, job_marks);
-    if most < held {
-        return 0;
-    }
-    most - held
+    (o.concurrent as usize).saturating_sub(slots_held(jobs))
 }

@@ -1,139 +1,54 @@
 // The ids that jobs use, in the table of used ids: slatedb's ConflictChecker as it is made from the jobs.
-ghost use Rattle.std.specs.Prelude.{◌≡◌, [], ◌+◌, ◌*◌, ◌<◌, ◌≤◌, length, get_or};
-ghost use Rattle.rules.specs.Tables.{id_of};
-ghost use Rattle.rules.specs.Lent.{LentJobs, lent_jobs, rows_from, source_at, job_at};
-ghost use Rattle.tree_pick.specs.Conflict.{key_of, Added};
+ghost use Rattle.std.specs.Prelude.{◌≡◌, ◌+◌, ◌*◌, ◌<◌, ◌≤◌, length, get_or};
+ghost use Rattle.rules.specs.Lent.{rows_from, source_at, job_at};
+ghost use Rattle.rows.specs.InSlices.{jobs_in};
 ghost use Rattle.plan_start.specs.UsedByJobs.{source_keys, job_keys, AddedAll, JobRoom, UsedByJobs};
 
-use rows::bounds::wide;
-use tree_pick::conflict::add_used;
+use rows::jobs::Jobs;
+use rows::sources::Sources;
+use rules::tables::{Kind, SourceId, Status};
+use tree_pick::conflict::UsedIds;
 
-// The key of source entry s, after the first `n`: "a source's 1 is a run", and "Parts that a mark makes idle are not looked at".
-fn add_source(
-    used: &mut [u64],
-    n: usize,
-    prefix: u32,
-    source_marks: &[u8],
-    source_runs: &[u32],
-    source_views: &[u64],
-    s: usize,
-)
-    requires { (4 * n + 3 < length used.old) × (s < length source_marks.now) × (s < length source_runs.now) × (2 * s + 1 < length source_views.now) }
-    ensures { Added used.old n (key_of prefix (id_of (source_at source_marks.now source_runs.now source_views.now s))) used.new }
+// The keys of `count` source entries from entry `at` on.
+fn add_sources(used: &mut UsedIds, prefix: u32, sources: &Sources, at: usize, count: usize)
+    requires { (used.old.count + count ≤ length used.old.keys.now) × (at + count ≤ length sources.now.marks.now) × (at + count ≤ length sources.now.runs.now) × (2 * (at + count) ≤ length sources.now.views.now) }
+    ensures { AddedAll used.old (source_keys prefix (rows_from (source_at sources.now.marks.now sources.now.runs.now sources.now.views.now) at count)) used.new }
 {
-    if source_marks[s] == 1 {
-        add_used(used, n, prefix as u64, 1, 0, source_runs[s] as u64);
-        return;
+    for k in 0..count {
+        used.add(prefix, sources.at(at + k).id());
     }
-    add_used(
-        used,
-        n,
-        prefix as u64,
-        0,
-        source_views[2 * s],
-        source_views[2 * s + 1],
-    );
-}
-
-// The keys of `count` source entries from entry `at` on; the answer is how many keys there are then.
-fn add_sources(
-    used: &mut [u64],
-    n: usize,
-    prefix: u32,
-    source_marks: &[u8],
-    source_runs: &[u32],
-    source_views: &[u64],
-    at: usize,
-    count: usize,
-) -> usize
-    requires { (4 * (n + count) ≤ length used.old) × (at + count ≤ length source_marks.now) × (at + count ≤ length source_runs.now) × (2 * (at + count) ≤ length source_views.now) }
-    ensures { AddedAll used.old n (source_keys prefix (rows_from (source_at source_marks.now source_runs.now source_views.now) at count)) used.new result }
-{
-    let mut k = 0;
-    while k < count {
-        add_source(
-            used,
-            n + k,
-            prefix,
-            source_marks,
-            source_runs,
-            source_views,
-            at + k,
-        );
-        k += 1;
-    }
-    n + k
 }
 
 // The keys of job i, whose source entries begin at entry `at`: of its sources, and where it is tiered of its destination.
 #[tactic(auto, using(crate::proofs::JobKeys::job_turns))]
-fn add_job(
-    used: &mut [u64],
-    n: usize,
-    job_marks: &[u8],
-    job_specs: &[u32],
-    source_marks: &[u8],
-    source_runs: &[u32],
-    source_views: &[u64],
-    i: usize,
-    at: usize,
-) -> usize
-    requires { (4 * (n + get_or job_specs.now (3 * i + 2) 0 + 1) ≤ length used.old) × (2 * i + 1 < length job_marks.now) × (3 * i + 2 < length job_specs.now) × (at + get_or job_specs.now (3 * i + 2) 0 ≤ length source_marks.now) × (at + get_or job_specs.now (3 * i + 2) 0 ≤ length source_runs.now) × (2 * (at + get_or job_specs.now (3 * i + 2) 0) ≤ length source_views.now) }
-    ensures { AddedAll used.old n (job_keys (job_at (lent_jobs 0 [] job_marks.now job_specs.now source_marks.now source_runs.now source_views.now) i at)) used.new result }
+fn add_job(used: &mut UsedIds, jobs: &Jobs, i: usize, at: usize)
+    requires { (used.old.count + get_or jobs.now.specs.now (3 * i + 2) 0 + 1 ≤ length used.old.keys.now) × (2 * i + 1 < length jobs.now.marks.now) × (3 * i + 2 < length jobs.now.specs.now) × (at + get_or jobs.now.specs.now (3 * i + 2) 0 ≤ length jobs.now.sources.marks.now) × (at + get_or jobs.now.specs.now (3 * i + 2) 0 ≤ length jobs.now.sources.runs.now) × (2 * (at + get_or jobs.now.specs.now (3 * i + 2) 0) ≤ length jobs.now.sources.views.now) }
+    ensures { AddedAll used.old (job_keys (job_at (jobs_in jobs.now) i at)) used.new }
 {
-    if 3 < job_marks[2 * i] {
-        return n;
+    if jobs.marks[2 * i] > Status::Compacted as u8 {
+        return;
     }
-    let prefix = job_specs[3 * i];
-    let count = wide(job_specs[3 * i + 2]);
-    let m = add_sources(
-        used,
-        n,
-        prefix,
-        source_marks,
-        source_runs,
-        source_views,
-        at,
-        count,
-    );
-    if job_marks[2 * i + 1] == 1 {
-        return m;
+    let prefix = jobs.specs[3 * i];
+    let count = jobs.specs[3 * i + 2] as usize;
+    add_sources(used, prefix, &jobs.sources, at, count);
+    if jobs.marks[2 * i + 1] == Kind::Drain as u8 {
+        return;
     }
-    add_used(used, m, prefix as u64, 1, 0, job_specs[3 * i + 1] as u64);
-    m + 1
+    used.add(prefix, SourceId::SortedRun(jobs.specs[3 * i + 1]));
 }
 
 // "Used ids of a tree: every source of its active jobs, and the destinations of its tiered ones, as run ids.": of all trees, by
-// their prefixes, from the front of the table; the answer is how many.
-pub fn fill_used(
-    count: usize,
-    job_marks: &[u8],
-    job_specs: &[u32],
-    source_marks: &[u8],
-    source_runs: &[u32],
-    source_views: &[u64],
-    used: &mut [u64],
-) -> usize
-    requires { JobRoom count job_marks.now job_specs.now source_marks.now source_runs.now source_views.now used.old }
-    ensures { (length used.new ≡ length used.old) × ((j : LentJobs) → j.count ≡ count → j.job_marks ≡ job_marks.now → j.job_specs ≡ job_specs.now → j.source_marks ≡ source_marks.now → j.source_runs ≡ source_runs.now → j.source_views ≡ source_views.now → UsedByJobs j used.new result) }
+// their prefixes, from the front of the table.
+pub fn fill_used(jobs: &Jobs, used: &mut UsedIds)
+    requires { JobRoom jobs.now (length used.old.keys.now) }
+    ensures same { used.new.keys.ghost_name ≡ used.old.keys.ghost_name }
+    ensures kept { length used.new.keys.now ≡ length used.old.keys.now }
+    ensures uses { UsedByJobs (jobs_in jobs.now) used.new }
 {
-    let mut n = 0;
+    used.count = 0;
     let mut at = 0;
-    let mut i = 0;
-    while i < count {
-        n = add_job(
-            used,
-            n,
-            job_marks,
-            job_specs,
-            source_marks,
-            source_runs,
-            source_views,
-            i,
-            at,
-        );
-        at += wide(job_specs[3 * i + 2]);
-        i += 1;
+    for i in 0..jobs.count {
+        add_job(used, jobs, i, at);
+        at += jobs.specs[3 * i + 2] as usize;
     }
-    n
 }

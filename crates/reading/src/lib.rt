@@ -11,6 +11,7 @@ pub fn read_full(input: &mut impl Read, bytes: &mut [u8]) -> io::Result<usize>
     ensures { IfOk result (λ n. n ≤ length bytes.new) }
 {
     let mut done = 0;
+    // No `for`: a read may bring any part of what is left. std's `read_exact` does not say how much came before the end.
     while done < bytes.len() {
         let n = input.read(&mut bytes[done..])?;
         if n == 0 {

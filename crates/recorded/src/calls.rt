@@ -1,83 +1,94 @@
 // The calls that change tables, and whether each answers and leaves what its line says. `n` is the refusal that the line says,
 // 0 for none.
-use crate::jobs::{change_jobs, change_marks, read_jobs, same_jobs};
-use crate::reader::{count, half, number};
-use crate::trees::{change_trees, read_trees, same_trees};
-use lent::endings::{Ending, Left, end_job};
+use crate::jobs::{change_jobs, read_jobs};
+use crate::reader::Reader;
+use crate::trees::{change_trees, read_trees};
+use lent::endings::{Ending, end_job};
 use lent::jobs::{Jobs, merge_jobs, retain_jobs};
 use lent::trees::Trees;
-use rules::FinishAnswer;
+use rules::answers::{Finished, Refusal};
+use rules::tables::{Run, Ulid};
 
-// The count and the changes that the line says, against the jobs that a call left.
-pub fn jobs_agree(s: &[u8], at: &mut usize, n: u32, before: Jobs, left: Jobs) -> bool {
-    let jobs = count(s, at);
-    let said = change_jobs(s, at, before);
-    left.refusal == n && left.count == jobs && same_jobs(left, said)
-}
-
-pub fn merge_agrees(s: &[u8], at: &mut usize, n: u32) -> bool {
-    let local = read_jobs(s, at);
-    let remote = read_jobs(s, at);
-    jobs_agree(s, at, n, local, merge_jobs(local, remote))
-}
-
-pub fn retain_agrees(s: &[u8], at: &mut usize, n: u32) -> bool {
-    let jobs = read_jobs(s, at);
-    jobs_agree(s, at, n, jobs, retain_jobs(jobs))
-}
-
-fn refusal_of(answer: FinishAnswer) -> u32 {
+// The number of an answer's refusal, 0 for none.
+pub fn refusal_of(answer: Result<(), Refusal>) -> u32 {
     match answer {
-        FinishAnswer::Committed => 0,
-        FinishAnswer::SegmentMissing => 0,
-        FinishAnswer::Refused(n) => n,
+        Ok(()) => 0,
+        Err(refusal) => refusal.number(),
     }
 }
 
-fn is_missing(answer: FinishAnswer) -> bool {
+// The refusal, the count and the changes that the line says, against the answer of a call and the jobs that it left.
+pub fn jobs_agree(
+    reader: &mut Reader,
+    n: u32,
+    before: &Jobs,
+    answer: Result<(), Refusal>,
+    left: &Jobs,
+) -> bool {
+    let mut said = *before;
+    said.count = reader.count();
+    change_jobs(reader, &mut said);
+    refusal_of(answer) == n && *left == said
+}
+
+pub fn merge_agrees(reader: &mut Reader, n: u32) -> bool {
+    let local = read_jobs(reader);
+    let remote = read_jobs(reader);
+    let mut left = local;
+    let answer = merge_jobs(&mut left, &remote);
+    jobs_agree(reader, n, &local, answer, &left)
+}
+
+pub fn retain_agrees(reader: &mut Reader, n: u32) -> bool {
+    let jobs = read_jobs(reader);
+    let mut left = jobs;
+    let answer = retain_jobs(&mut left);
+    jobs_agree(reader, n, &jobs, answer, &left)
+}
+
+fn answer_agrees(answer: Result<Finished, Refusal>, n: u32, missing: bool) -> bool {
     match answer {
-        FinishAnswer::Committed => false,
-        FinishAnswer::SegmentMissing => true,
-        FinishAnswer::Refused(_) => false,
+        Ok(Finished::Committed) => n == 0 && !missing,
+        Ok(Finished::SegmentMissing) => n == 0 && missing,
+        Err(refusal) => refusal.number() == n && !missing,
     }
 }
 
-// What the line says of a finish or a drain, against the tables that it left: 1 where the segment is missing, and the changes.
-fn tables_agree(s: &[u8], at: &mut usize, n: u32, trees: Trees, jobs: Jobs, left: Left) -> bool {
-    let missing = number(s, at) == 1;
-    let said_trees = change_trees(s, at, trees);
-    let said_jobs = change_marks(s, at, jobs);
-    let answer = left.answer;
-    let left_trees = left.trees;
-    let left_jobs = left.jobs;
-    refusal_of(answer) == n
-        && is_missing(answer) == missing
-        && same_trees(left_trees, said_trees)
-        && same_jobs(left_jobs, said_jobs)
+// What the line says of a finish or a drain, against the tables that it left: 1 where the segment is missing, and the changes. Of
+// the jobs only marks may change.
+fn end_agrees(
+    reader: &mut Reader,
+    n: u32,
+    trees: &Trees,
+    jobs: &Jobs,
+    id: Ulid,
+    ending: Ending,
+) -> bool {
+    let mut left_trees = *trees;
+    let mut left_jobs = *jobs;
+    let answer = end_job(&mut left_trees, &mut left_jobs, id, ending);
+    let missing = reader.number::<u64>() == 1;
+    let mut said_trees = *trees;
+    change_trees(reader, &mut said_trees);
+    let mut said_jobs = *jobs;
+    reader.change(&mut said_jobs.marks);
+    answer_agrees(answer, n, missing) && left_trees == said_trees && left_jobs == said_jobs
 }
 
-pub fn finish_agrees(s: &[u8], at: &mut usize, n: u32) -> bool {
-    let trees = read_trees(s, at);
-    let jobs = read_jobs(s, at);
-    let id_high = number(s, at);
-    let id_low = number(s, at);
-    let output = half(s, at);
-    let size = number(s, at);
-    let left = end_job(
-        trees,
-        jobs,
-        id_high,
-        id_low,
-        Ending::Finish { output, size },
-    );
-    tables_agree(s, at, n, trees, jobs, left)
+pub fn finish_agrees(reader: &mut Reader, n: u32) -> bool {
+    let trees = read_trees(reader);
+    let jobs = read_jobs(reader);
+    let id = reader.ulid();
+    let output = Run {
+        id: reader.number(),
+        size: reader.number(),
+    };
+    end_agrees(reader, n, &trees, &jobs, id, Ending::Finish(output))
 }
 
-pub fn drain_agrees(s: &[u8], at: &mut usize, n: u32) -> bool {
-    let trees = read_trees(s, at);
-    let jobs = read_jobs(s, at);
-    let id_high = number(s, at);
-    let id_low = number(s, at);
-    let left = end_job(trees, jobs, id_high, id_low, Ending::Drain);
-    tables_agree(s, at, n, trees, jobs, left)
+pub fn drain_agrees(reader: &mut Reader, n: u32) -> bool {
+    let trees = read_trees(reader);
+    let jobs = read_jobs(reader);
+    let id = reader.ulid();
+    end_agrees(reader, n, &trees, &jobs, id, Ending::Drain)
 }

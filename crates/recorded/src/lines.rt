@@ -2,61 +2,95 @@
 // otherwise, then what the call is lent and what it leaves.
 use crate::calls::{drain_agrees, finish_agrees, merge_agrees, retain_agrees};
 use crate::plans::plan_agrees;
-use crate::reader::{half, mark};
+use crate::reader::Reader;
 use crate::specs::{add_agrees, validate_agrees};
+use std::fmt;
 
-// `row` is that of the call and the answer, 16 answers to a call; the last is for lines that are none.
+#[derive(Clone, Copy)]
+pub enum Call {
+    Plan,
+    Validate,
+    Add,
+    Merge,
+    Retain,
+    Finish,
+    Drain,
+}
+
+impl Call {
+    pub const ALL: [Call; 7] = [
+        Call::Plan,
+        Call::Validate,
+        Call::Add,
+        Call::Merge,
+        Call::Retain,
+        Call::Finish,
+        Call::Drain,
+    ];
+
+    fn of_letter(letter: u8) -> Option<Call> {
+        match letter {
+            b'p' => Some(Call::Plan),
+            b'v' => Some(Call::Validate),
+            b'a' => Some(Call::Add),
+            b'm' => Some(Call::Merge),
+            b'r' => Some(Call::Retain),
+            b'f' => Some(Call::Finish),
+            b'd' => Some(Call::Drain),
+            _ => None,
+        }
+    }
+
+    fn agrees(self, reader: &mut Reader, n: u32) -> bool {
+        match self {
+            Call::Plan => plan_agrees(reader, n),
+            Call::Validate => validate_agrees(reader, n),
+            Call::Add => add_agrees(reader, n),
+            Call::Merge => merge_agrees(reader, n),
+            Call::Retain => retain_agrees(reader, n),
+            Call::Finish => finish_agrees(reader, n),
+            Call::Drain => drain_agrees(reader, n),
+        }
+    }
+}
+
+impl fmt::Display for Call {
+    fn fmt<W: fmt::Write>(&self, f: &mut fmt::Formatter<W>) -> fmt::Result {
+        f.write_str(match self {
+            Call::Plan => "plan",
+            Call::Validate => "validate",
+            Call::Add => "add",
+            Call::Merge => "merge",
+            Call::Retain => "retain",
+            Call::Finish => "finish",
+            Call::Drain => "drain",
+        })
+    }
+}
+
+// `refusal` is that which the line says, 0 for none.
 #[derive(Clone, Copy)]
 pub struct Told {
-    pub row: usize,
+    pub call: Option<Call>,
+    pub refusal: u32,
     pub theirs: bool,
     pub agrees: bool,
 }
 
-// The call's place among the seven, 7 for none.
-fn call_of(letter: u8) -> usize {
-    match letter {
-        b'p' => 0,
-        b'v' => 1,
-        b'a' => 2,
-        b'm' => 3,
-        b'r' => 4,
-        b'f' => 5,
-        b'd' => 6,
-        _ => 7,
-    }
-}
-
-fn call_agrees(s: &[u8], at: &mut usize, call: usize, n: u32) -> bool {
-    match call {
-        0 => plan_agrees(s, at, n),
-        1 => validate_agrees(s, at, n),
-        2 => add_agrees(s, at, n),
-        3 => merge_agrees(s, at, n),
-        4 => retain_agrees(s, at, n),
-        5 => finish_agrees(s, at, n),
-        6 => drain_agrees(s, at, n),
-        _ => false,
-    }
-}
-
-fn row_of(call: usize, n: u32) -> usize {
-    if call < 7 && n < 16 {
-        return 16 * call + (n as usize);
-    }
-    112
-}
-
 // A line agrees only if it is read whole.
 pub fn tell(line: &[u8]) -> Told {
-    let mut at = 0;
-    let call = call_of(mark(line, &mut at));
-    let n = half(line, &mut at);
-    let theirs = mark(line, &mut at) == b'=';
-    let agrees = call_agrees(line, &mut at, call, n);
+    let mut reader = Reader::new(line);
+    let call = Call::of_letter(reader.mark());
+    let refusal = reader.number();
+    let theirs = reader.mark() == b'=';
+    let agrees = match call {
+        Some(call) => call.agrees(&mut reader, refusal),
+        None => false,
+    };
     Told {
-        row: row_of(call, n),
+        call,
+        refusal,
         theirs,
-        agrees: agrees && at == line.len(),
+        agrees: agrees && reader.is_at_end(),
     }
 }

@@ -1,102 +1,94 @@
 // Planning.
 use crate::jobs::read_jobs;
-use crate::reader::{byte, count, half};
+use crate::reader::Reader;
+use crate::slices::first_mut;
 use crate::trees::read_trees;
-use crate::unused::{half_of, word_of};
-use crate::{bytes, halves, words};
 use hex_text::threshold_of;
-use lent::planning::plan_tables;
-use rules::{Options, PlanAnswer};
+use lent::jobs::Jobs;
+use lent::trees::Trees;
+use plan_passes::lay::PlanTable;
+use rules::Options;
+use rules::answers::{Planned, Refusal};
+use size_tiered_compaction::plan::plan;
 
-fn read_options(s: &[u8], at: &mut usize) -> Options {
-    let min = half(s, at);
-    let max = half(s, at);
-    let concurrent = half(s, at);
-    let threshold = threshold_of(half(s, at));
+// A plan's four slices, and how much of each is lent.
+#[derive(Clone, Copy, PartialEq, Eq)]
+struct Plan {
+    spec_end: usize,
+    specs: [u32; 192],
+    mark_end: usize,
+    marks: [u8; 1024],
+    run_end: usize,
+    runs: [u32; 1024],
+    view_end: usize,
+    views: [u64; 2048],
+}
+
+impl Plan {
+    // The byte that unused places hold, and how much is lent of each slice.
+    fn read(reader: &mut Reader) -> Plan {
+        let unused = reader.number();
+        Plan {
+            spec_end: reader.count(),
+            specs: reader.table(unused),
+            mark_end: reader.count(),
+            marks: reader.table(unused),
+            run_end: reader.count(),
+            runs: reader.table(unused),
+            view_end: reader.count(),
+            views: reader.table(unused),
+        }
+    }
+
+    // Makes the changes that are written here.
+    fn change(&mut self, reader: &mut Reader) {
+        reader.change(&mut self.specs);
+        reader.change(&mut self.marks);
+        reader.change(&mut self.runs);
+        reader.change(&mut self.views);
+    }
+
+    // Plans into the places that are lent.
+    fn make(&mut self, trees: &Trees, jobs: &Jobs, o: Options) -> Result<Planned, Refusal> {
+        let mut lent = PlanTable {
+            specs: first_mut(&mut self.specs, self.spec_end),
+            marks: first_mut(&mut self.marks, self.mark_end),
+            runs: first_mut(&mut self.runs, self.run_end),
+            views: first_mut(&mut self.views, self.view_end),
+        };
+        plan(&trees.lent(), &jobs.lent(), o, &mut lent)
+    }
+}
+
+fn read_options(reader: &mut Reader) -> Options {
     Options {
-        min,
-        max,
-        concurrent,
-        threshold,
+        min: reader.number(),
+        max: reader.number(),
+        concurrent: reader.number(),
+        threshold: threshold_of(reader.number()),
     }
 }
 
 // The specs and passes that the line says, or the refusal.
-fn answer_agrees(answer: PlanAnswer, n: u32, said_specs: usize, said_passes: usize) -> bool {
+fn answer_agrees(answer: Result<Planned, Refusal>, n: u32, said: Planned) -> bool {
     match answer {
-        PlanAnswer::Planned { specs, passes } => {
-            n == 0 && specs == said_specs && passes == said_passes
-        }
-        PlanAnswer::Refused(m) => m == n,
+        Ok(made) => n == 0 && made == said,
+        Err(refusal) => refusal.number() == n,
     }
 }
 
 // The changes that the line says, against the plan that the call left of the one that it was lent.
-fn plan_agrees_with(
-    s: &[u8],
-    at: &mut usize,
-    specs: &[u32; 192],
-    marks: &[u8; 1024],
-    runs: &[u32; 1024],
-    views: &[u64; 2048],
-    said_specs: &mut [u32; 192],
-    said_marks: &mut [u8; 1024],
-    said_runs: &mut [u32; 1024],
-    said_views: &mut [u64; 2048],
-) -> bool {
-    halves::change(s, at, said_specs);
-    bytes::change(s, at, said_marks);
-    halves::change(s, at, said_runs);
-    words::change(s, at, said_views);
-    halves::same(specs, said_specs)
-        && check::same(marks, said_marks)
-        && halves::same(runs, said_runs)
-        && words::same(views, said_views)
-}
-
-pub fn plan_agrees(s: &[u8], at: &mut usize, n: u32) -> bool {
-    let o = read_options(s, at);
-    let trees = read_trees(s, at);
-    let jobs = read_jobs(s, at);
-    let unused = byte(s, at);
-    let mut specs = [0u32; 192];
-    let mut marks = [0u8; 1024];
-    let mut runs = [0u32; 1024];
-    let mut views = [0u64; 2048];
-    let spec_end = count(s, at);
-    halves::fill(s, at, &mut specs, half_of(unused));
-    let mark_end = count(s, at);
-    bytes::fill(s, at, &mut marks, unused);
-    let run_end = count(s, at);
-    halves::fill(s, at, &mut runs, half_of(unused));
-    let view_end = count(s, at);
-    words::fill(s, at, &mut views, word_of(unused));
-    let mut said_specs = specs;
-    let mut said_marks = marks;
-    let mut said_runs = runs;
-    let mut said_views = views;
-    let answer = plan_tables(
-        trees,
-        jobs,
-        o,
-        halves::first_mut(&mut specs, spec_end),
-        bytes::first_mut(&mut marks, mark_end),
-        halves::first_mut(&mut runs, run_end),
-        words::first_mut(&mut views, view_end),
-    );
-    let planned = count(s, at);
-    let passes = count(s, at);
-    answer_agrees(answer, n, planned, passes)
-        && plan_agrees_with(
-            s,
-            at,
-            &specs,
-            &marks,
-            &runs,
-            &views,
-            &mut said_specs,
-            &mut said_marks,
-            &mut said_runs,
-            &mut said_views,
-        )
+pub fn plan_agrees(reader: &mut Reader, n: u32) -> bool {
+    let o = read_options(reader);
+    let trees = read_trees(reader);
+    let jobs = read_jobs(reader);
+    let mut left = Plan::read(reader);
+    let mut said = left;
+    let answer = left.make(&trees, &jobs, o);
+    let made = Planned {
+        specs: reader.count(),
+        passes: reader.count(),
+    };
+    said.change(reader);
+    answer_agrees(answer, n, made) && left == said
 }

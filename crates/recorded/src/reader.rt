@@ -1,49 +1,96 @@
 // Reads a line of the record: numbers and marks, each with one blank behind it. Behind the line's end there are no more.
-ghost use Rattle.std.specs.Prelude.{◌≤◌};
+ghost use Rattle.std.specs.Prelude.{◌≡◌, length};
 
-use hex_text::{digit, end_of_digits, narrow};
+use crate::number::Number;
+use hex_text::{digit, digit_count};
+use rules::tables::Ulid;
 
-fn step(at: usize) -> usize {
-    if at < 18446744073709551615 {
-        at + 1
-    } else {
-        at
+#[derive(Drop)]
+pub struct Reader<'a> {
+    line: &'a [u8],
+    at: usize,
+}
+
+impl<'a> Reader<'a> {
+    pub fn new(line: &'a [u8]) -> Self {
+        Reader { line, at: 0 }
     }
-}
 
-// Whether a number stands here.
-pub fn more(s: &[u8], at: usize) -> bool {
-    at < s.len() && digit(s[at]) < 16
-}
+    fn rest(&self) -> &'a [u8] {
+        self.line.get(self.at..).unwrap_or(&[])
+    }
 
-pub fn number(s: &[u8], at: &mut usize) -> u64 {
-    let from = *at;
-    *at = step(end_of_digits(s, from));
-    hex_text::number(s, from)
-}
+    // Goes behind so many bytes and the blank.
+    fn step(&mut self, bytes: usize) {
+        self.at = self.at.saturating_add(bytes).saturating_add(1);
+    }
 
-pub fn half(s: &[u8], at: &mut usize) -> u32 {
-    narrow(number(s, at))
-}
+    // Whether a number stands here.
+    fn more(&self) -> bool {
+        self.rest().first().is_some_and(|b| digit(*b).is_some())
+    }
 
-pub fn byte(s: &[u8], at: &mut usize) -> u8 {
-    let n = number(s, at);
-    if n < 256 { n as u8 } else { 0 }
-}
+    pub fn number<N: Number>(&mut self) -> N {
+        let rest = self.rest();
+        self.step(digit_count(rest));
+        N::of_line(hex_text::number(rest))
+    }
 
-pub fn count(s: &[u8], at: &mut usize) -> usize {
-    number(s, at) as usize
-}
+    pub fn count(&mut self) -> usize {
+        self.number::<u64>() as usize
+    }
 
-// A mark is one byte.
-pub fn mark(s: &[u8], at: &mut usize) -> u8 {
-    let here = *at;
-    *at = step(step(here));
-    if here < s.len() { s[here] } else { b' ' }
-}
+    pub fn ulid(&mut self) -> Ulid {
+        Ulid {
+            high: self.number(),
+            low: self.number(),
+        }
+    }
 
-pub fn least(a: usize, b: usize) -> usize
-    ensures { result ≤ b }
-{
-    if a < b { a } else { b }
+    // A mark is one byte.
+    pub fn mark(&mut self) -> u8 {
+        let mark = self.rest().first().copied().unwrap_or(b' ');
+        self.step(1);
+        mark
+    }
+
+    // A line is read whole if no byte of it is left, nor one missing.
+    pub fn is_at_end(&self) -> bool {
+        self.at == self.line.len()
+    }
+
+    // The numbers up to the next mark; the places behind them hold what is unused.
+    pub fn table<N: Number, const LEN: usize>(&mut self, unused: u8) -> [N; LEN] {
+        let mut table = [N::repeated(unused); LEN];
+        for place in table.iter_mut() {
+            if self.more() {
+                *place = self.number();
+            }
+        }
+        self.mark();
+        table
+    }
+
+    // The change that stands here, if one does: a place and its number.
+    fn change_one<N: Number>(&mut self, table: &mut [N])
+        ensures { length table.new ≡ length table.old }
+    {
+        if self.more() {
+            let place = self.count();
+            let number = self.number();
+            if let Some(changed) = table.get_mut(place) {
+                *changed = number;
+            }
+        }
+    }
+
+    // The changes up to the next mark, of which there are no more than places.
+    pub fn change<N: Number>(&mut self, table: &mut [N])
+        ensures { length table.new ≡ length table.old }
+    {
+        for _ in 0..table.len() {
+            self.change_one(table);
+        }
+        self.mark();
+    }
 }

@@ -1,65 +1,80 @@
 // How many lines there are of each call and answer.
-use std::io;
-use std::num::wrapping_add_u64;
+use crate::lines::{Call, Told};
+use std::{fmt, io};
 
-fn text(rt: &impl Print, s: &[u8]) -> io::Result<()> {
-    rt.write_all(s)
+#[derive(Clone, Copy, Default)]
+struct Count {
+    cases: u64,
+    theirs: u64,
+    agree: u64,
 }
 
-fn number(rt: &impl Print, n: u64) -> io::Result<()> {
-    print!(rt; "{n}")
-}
-
-pub fn count_one(rows: &mut [u64; 113], row: usize, counts: bool) {
-    if row < 113 && counts {
-        rows[row] = wrapping_add_u64(rows[row], 1);
+impl Count {
+    fn add(&mut self, told: &Told) {
+        self.cases = self.cases.wrapping_add(1);
+        self.theirs = self.theirs.wrapping_add(u64::from(told.theirs));
+        self.agree = self.agree.wrapping_add(u64::from(told.agrees));
     }
 }
 
-fn show_call(rt: &impl Print, call: usize) -> io::Result<()> {
-    match call {
-        0 => text(rt, b"plan"),
-        1 => text(rt, b"validate"),
-        2 => text(rt, b"add"),
-        3 => text(rt, b"merge"),
-        4 => text(rt, b"retain"),
-        5 => text(rt, b"finish"),
-        6 => text(rt, b"drain"),
-        _ => text(rt, b"no call"),
+impl fmt::Display for Count {
+    fn fmt<W: fmt::Write>(&self, f: &mut fmt::Formatter<W>) -> fmt::Result {
+        let cases = self.cases;
+        let theirs = self.theirs;
+        let agree = self.agree;
+        write!(
+            f,
+            "{cases} cases, {theirs} as slatedb's own code answers, {agree} agree"
+        )
     }
 }
 
-fn show_answer(rt: &impl Print, n: usize) -> io::Result<()> {
-    if n == 0 {
-        return text(rt, b" answered: ");
+// Lines of each call, by the refusal, 0 for none; and lines that are no call's, or say a refusal that there is not.
+#[derive(Clone, Copy, Default)]
+pub struct Tally {
+    calls: [[Count; 16]; 7],
+    others: Count,
+}
+
+impl Tally {
+    fn count_of(&mut self, told: &Told) -> &mut Count {
+        match told.call {
+            Some(call) if told.refusal < 16 => {
+                &mut self.calls[call as usize][told.refusal as usize]
+            }
+            _ => &mut self.others,
+        }
     }
-    text(rt, b" refused ")?;
-    number(rt, n as u64)?;
-    text(rt, b": ")
+
+    pub fn add(&mut self, told: &Told) {
+        self.count_of(told).add(told);
+    }
+
+    // The counts that have a case.
+    pub fn show(&self, rt: &impl Print) -> io::Result<()> {
+        for call in Call::ALL {
+            show_call(rt, call, &self.calls[call as usize])?;
+        }
+        if self.others.cases > 0 {
+            println!(rt; "no call answered: {}", self.others)?;
+        }
+        Ok(())
+    }
 }
 
-fn show_row(rt: &impl Print, row: usize, cases: u64, theirs: u64, agree: u64) -> io::Result<()> {
-    show_call(rt, row / 16)?;
-    show_answer(rt, row % 16)?;
-    number(rt, cases)?;
-    text(rt, b" cases, ")?;
-    number(rt, theirs)?;
-    text(rt, b" as slatedb's own code answers, ")?;
-    number(rt, agree)?;
-    text(rt, b" agree\n")
-}
-
-// The rows that have a case.
-pub fn show(
-    rt: &impl Print,
-    cases: &[u64; 113],
-    theirs: &[u64; 113],
-    agree: &[u64; 113],
-) -> io::Result<()> {
-    for row in 0..113 {
-        if cases[row] > 0 {
-            show_row(rt, row, cases[row], theirs[row], agree[row])?;
+fn show_call(rt: &impl Print, call: Call, counts: &[Count; 16]) -> io::Result<()> {
+    for (refusal, count) in counts.iter().enumerate() {
+        if count.cases > 0 {
+            show_count(rt, call, refusal, count)?;
         }
     }
     Ok(())
+}
+
+fn show_count(rt: &impl Print, call: Call, refusal: usize, count: &Count) -> io::Result<()> {
+    if refusal == 0 {
+        println!(rt; "{call} answered: {count}")
+    } else {
+        println!(rt; "{call} refused {refusal}: {count}")
+    }
 }

@@ -7,7 +7,8 @@ use mathlib.Core.Option.{some, none}
 use lib.Dec.{eqb}
 use lib.ListN.{get_or}
 use Rattle.rules.specs.Lists.{leading, total}
-use Rattle.rules.specs.Tables.{Ulid, same_ulid, Tree, Job}
+use Rattle.rules.specs.declared.tables.Ulid.{Ulid}
+use Rattle.rules.specs.Tables.{same_ulid, Tree, Job}
 use Rattle.rules.specs.Lent.{LentTrees, LentJobs, rows_from, ulid_at, l0_count, run_count, source_count, tree_at, trees_of, job_at, jobs_of}
 use Rattle.rules.specs.Validation.{tree_with}
 use Rattle.rules.specs.Jobs.{job_with}

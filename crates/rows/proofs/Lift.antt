@@ -8,7 +8,7 @@ use native.Mathlib.Omega.{arith}
 use lib.ListN.{length, get_or, take, drop, length-drop, take-append-drop}
 use lib.Seq.{take-nil, drop-nil, take_at, drop_at, drop-append-le, take-append-add, drop-append-add, take-take}
 use Rattle.rules.specs.Lists.{keep, concat_map}
-use Rattle.rules.specs.Lent.{laid}
+use Rattle.rules.specs.Lent.{laid, laid_with}
 use Rattle.rules.proofs.Rows.{length-words, number_at, concat_map-append}
 use Rattle.rows.specs.Movers.{marked, kept, opened, closed}
 
@@ -108,12 +108,12 @@ module _ {A : Type 0} (words : A → List ℕ) (w : ℕ) (width : (a : A) → le
   -- a laid slice reads back: number k of row i
   pub laid-number : (used : ℕ) (xs : List A) (s : List ℕ) (d : A) (i k : ℕ) → i < length xs → k < w
       → get_or (laid used (concat_map words xs) s) (w * i + k) 0 ≡ get_or (words (get_or xs i d)) k 0
-  unfolding laid
+  unfolding laid_with
   laid-number used xs s d i k h l = number_at words w width xs _ d i k h l
 
   -- a laid slice reads back: all rows at once
   pub laid-rows : (used : ℕ) (xs : List A) (s : List ℕ) → take (w * length xs) (laid used (concat_map words xs) s) ≡ concat_map words xs
-  unfolding laid
+  unfolding laid_with
   laid-rows used xs s = take_at (concat_map words xs) _ (w * length xs) (length-words words w width xs)
 
 module _ {A : Type 0} where

@@ -2,9 +2,15 @@
 use Prim.Native.Nat.{ℕ, ◌+◌, ◌-◌, ◌≤◌, ◌<◌}
 use mathlib.Core.Path.{◌≡◌, refl, sym, ap, ◌∙◌}
 use mathlib.Core.List.{List, [], ◌∷◌}
+use mathlib.Core.Bool.{Bool, ◌&&◌}
 use native.Mathlib.Nat.{sub-zero}
+use native.Mathlib.Omega.{arith}
+use lib.ListN.{length, get_or}
+use lib.Seq.{take_all}
+use Rattle.std.specs.List.{list_all}
+use Rattle.rules.specs.Lists.{all}
 use Rattle.rules.specs.Lent.{rows_from}
-use Rattle.rules.proofs.Rows.{rows_next, rows_end}
+use Rattle.rules.proofs.Rows.{rows_next, rows_end, part-is}
 
 module _ {A B : Type 0} where
   pub record Left (q : List A → B) (f : ℕ → A) (n i : ℕ) (v : B) : Type 0 where
@@ -29,3 +35,13 @@ module _ {A B : Type 0} where
     -- no row is left
     pub scan-ends : {i : ℕ} {v : B} → Left q f n i v → n ≤ i → q [] ≡ v
     scan-ends {i} l h = ap q (sym (rows_end f i n h)) ∙ l.test
+
+-- a test of all elements, as a chain of iterators says it
+pub all_listed : {A : Type 0} (p : A → Bool) (xs : List A) → list_all p xs ≡ all p xs
+unfolding all
+all_listed p [] = refl
+all_listed p (x ∷ xs) = ap (λ (b : Bool). p x && b) (all_listed p xs)
+
+-- the numbers of a slice, one by one
+pub whole-is : (s : List ℕ) → rows_from (λ i. get_or s i 0) 0 (length s) ≡ s
+whole-is s = part-is s 0 (length s) (omega arith) ∙ take_all (length s) s (omega arith)

@@ -7,7 +7,10 @@ use native.Mathlib.Nat.{one-mul, lt_irrefl}
 use lib.Dec.{eqb, ltb}
 use lib.ListN.{get_or}
 use Rattle.rules.specs.Lists.{all, linked, distinct, total}
-use Rattle.rules.specs.Tables.{Ulid, same_ulid, ulid_below, L0Row, Run, Source, Job}
+use Rattle.rules.specs.declared.tables.Ulid.{Ulid}
+use Rattle.rules.specs.declared.tables.Run.{Run}
+use Rattle.rules.specs.declared.tables.Source.{Source}
+use Rattle.rules.specs.Tables.{same_ulid, ulid_below, L0Row, Job}
 use Rattle.rules.specs.Lent.{LentTrees, LentJobs, rows_from, ulid_at, l0_at, run_at, source_at, l0_count, run_count, source_count, trees_from, trees_of, jobs_from, jobs_of, l0_used, runs_used, l0_of, runs_of}
 use Rattle.rules.specs.Bounds.{is_mark, first_is_root, falling_ids, good_trees, good_sources, good_job, good_jobs}
 use Rattle.rules.proofs.Appended.{all_append}

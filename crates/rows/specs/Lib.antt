@@ -1,4 +1,6 @@
 -- The definitions that the contracts of rows cite.
+pub mod InSlices
+pub mod Found
 pub mod Movers
 pub mod Shape
 pub mod Read

@@ -10,16 +10,7 @@ use rules::{MAX_JOBS, MAX_L0, MAX_RUNS, MAX_SOURCES, MAX_TREES};
 fn number_at(s: &[u32], at: usize) -> u32
     ensures { result ≡ get_or s.now at 0 }
 {
-    if at < s.len() {
-        return s[at];
-    }
-    0
-}
-
-pub fn wide(x: u32) -> usize
-    ensures { result ≡ x }
-{
-    x as usize
+    s.get(at).copied().unwrap_or(0)
 }
 
 // The sum of number `k` of each of the first `n` rows, of three numbers each, as those of trees and of jobs' specs are.
@@ -28,10 +19,8 @@ pub fn column_sum(s: &[u32], k: usize, n: usize) -> usize
     ensures { result ≡ total (rows_from (λ i. get_or s.now (3 * i + k) 0) 0 n) }
 {
     let mut sum: usize = 0;
-    let mut i = 0;
-    while i < n {
-        sum += wide(number_at(s, 3 * i + k));
-        i += 1;
+    for i in 0..n {
+        sum += number_at(s, 3 * i + k) as usize;
     }
     sum
 }
@@ -40,23 +29,15 @@ pub fn column_sum(s: &[u32], k: usize, n: usize) -> usize
 pub fn trees_outside(count: usize, trees: &[u32]) -> bool
     ensures { (t : LentTrees) → t.count ≡ count → t.trees ≡ trees.now → result ≡ trees_outside t }
 {
-    if count == 0 {
-        return true;
-    }
-    if MAX_TREES < count {
-        return true;
-    }
-    if MAX_L0 < column_sum(trees, 1, count) {
-        return true;
-    }
-    MAX_RUNS < column_sum(trees, 2, count)
+    count == 0
+        || MAX_TREES < count
+        || MAX_L0 < column_sum(trees, 1, count)
+        || MAX_RUNS < column_sum(trees, 2, count)
 }
 
+#[tactic(auto, unfolding(rules::specs::Bounds::jobs_outside, rules::specs::Lent::sources_used))]
 pub fn jobs_outside(count: usize, job_specs: &[u32]) -> bool
     ensures { (j : LentJobs) → j.count ≡ count → j.job_specs ≡ job_specs.now → result ≡ jobs_outside j }
 {
-    if MAX_JOBS < count {
-        return true;
-    }
-    MAX_SOURCES < column_sum(job_specs, 2, count)
+    MAX_JOBS < count || MAX_SOURCES < column_sum(job_specs, 2, count)
 }

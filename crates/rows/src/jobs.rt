@@ -1,125 +1,82 @@
-// Refusals 1 and 2 of lent jobs, and refusal 2 of a spec's or a job's own sources.
-ghost use Rattle.std.specs.Prelude.{◌≡◌, ◌&&◌, ℕ, ◌+◌, ◌*◌, ◌<◌, ◌≤◌, length, get_or};
+// The lent jobs, and refusals 1 and 2 of them.
+ghost use Rattle.std.specs.Prelude.{◌≡◌, ℕ, ◌+◌, ◌*◌, ◌<◌, ◌≤◌, length, get_or};
+ghost use Rattle.rules.specs.Answers.{refused};
 ghost use Rattle.rules.specs.Lists.{all, total};
 ghost use Rattle.rules.specs.Lent.{lent_jobs, rows_from};
-ghost use Rattle.rules.specs.Bounds.{jobs_at_capacity, jobs_refusal, lengths_agree, good_sources};
-ghost use Rattle.rules.specs.Validation.{lent_sources};
+ghost use Rattle.rules.specs.Bounds.{jobs_at_capacity, jobs_refusal};
+ghost use Rattle.rows.specs.InSlices.{jobs_in};
 ghost use Rattle.rows.specs.Shape.{good_marks_at, flat_jobs};
 
 use crate::bounds::{column_sum, jobs_outside};
 use crate::shape::{marks_good, rising};
+use crate::sources::Sources;
+use rules::answers::Refusal;
+use rules::tables::{Kind, Status};
 use rules::{MAX_JOBS, MAX_SOURCES};
+
+// "Jobs stand in rising id order.": the source entries of all stand in job order, as many for each as its spec says.
+#[derive(Clone, Copy)]
+pub struct Jobs<'a> {
+    pub count: usize,
+    pub ids: &'a [u64],
+    pub marks: &'a [u8],
+    pub specs: &'a [u32],
+    pub sources: Sources<'a>,
+}
 
 // "status above 5 or a mark above 1": the first `n` jobs have none.
 fn job_marks_good(job_marks: &[u8], n: usize) -> bool
     requires { 2 * n ≤ length job_marks.now }
     ensures { result ≡ all (good_marks_at job_marks.now) (rows_from (λ k. k) 0 n) }
 {
-    let mut i = 0;
-    while i < n {
-        if job_marks[2 * i] > 5 {
+    for i in 0..n {
+        if job_marks[2 * i] > Status::Failed as u8 {
             return false;
         }
-        if job_marks[2 * i + 1] > 1 {
+        if job_marks[2 * i + 1] > Kind::Drain as u8 {
             return false;
         }
-        i += 1;
     }
     true
 }
 
-// "lent lengths disagree or a table isn't lent at its capacity"
-fn jobs_at_capacity(
-    job_ids: &[u64],
-    job_marks: &[u8],
-    job_specs: &[u32],
-    source_marks: &[u8],
-    source_runs: &[u32],
-    source_views: &[u64],
-) -> bool
-    ensures { (count : ℕ) → result ≡ jobs_at_capacity (lent_jobs count job_ids.now job_marks.now job_specs.now source_marks.now source_runs.now source_views.now) }
-{
-    if job_ids.len() != 2 * MAX_JOBS {
-        return false;
+impl Jobs<'_> {
+    // "lent lengths disagree or a table isn't lent at its capacity"
+    #[tactic(auto, unfolding(rules::specs::Bounds::jobs_at_capacity))]
+    fn at_capacity(&self) -> bool
+        ensures { result ≡ jobs_at_capacity (jobs_in self.now) }
+    {
+        self.ids.len() == 2 * MAX_JOBS
+            && self.marks.len() == 2 * MAX_JOBS
+            && self.specs.len() == 3 * MAX_JOBS
+            && self.sources.marks.len() == MAX_SOURCES
+            && self.sources.runs.len() == MAX_SOURCES
+            && self.sources.views.len() == 2 * MAX_SOURCES
     }
-    if job_marks.len() != 2 * MAX_JOBS {
-        return false;
-    }
-    if job_specs.len() != 3 * MAX_JOBS {
-        return false;
-    }
-    if source_marks.len() != MAX_SOURCES {
-        return false;
-    }
-    if source_runs.len() != MAX_SOURCES {
-        return false;
-    }
-    source_views.len() == 2 * MAX_SOURCES
-}
 
-// The rules on jobs that are within the bounds and lent at capacity.
-fn good_jobs(
-    count: usize,
-    job_ids: &[u64],
-    job_marks: &[u8],
-    job_specs: &[u32],
-    source_marks: &[u8],
-) -> bool
-    requires { (count ≤ 64) × (length job_ids.now ≡ 128) × (length job_marks.now ≡ 128) × (length source_marks.now ≡ 1024) × (total (rows_from (λ i. get_or job_specs.now (3 * i + 2) 0) 0 count) ≤ 1024) }
-    ensures { result ≡ flat_jobs count job_ids.now job_marks.now job_specs.now source_marks.now }
-{
-    if !rising(job_ids, count) {
-        return false;
+    // The rules on jobs that are within the bounds and lent at capacity.
+    fn are_good(&self) -> bool
+        requires { (self.now.count ≤ 64) × (length self.now.ids.now ≡ 128) × (length self.now.marks.now ≡ 128) × (length self.now.sources.marks.now ≡ 1024) × (total (rows_from (λ i. get_or self.now.specs.now (3 * i + 2) 0) 0 self.now.count) ≤ 1024) }
+        ensures { result ≡ flat_jobs self.now.count self.now.ids.now self.now.marks.now self.now.specs.now self.now.sources.marks.now }
+    {
+        rising(self.ids, self.count)
+            && job_marks_good(self.marks, self.count)
+            && marks_good(&self.sources.marks[..column_sum(self.specs, 2, self.count)])
     }
-    if !job_marks_good(job_marks, count) {
-        return false;
-    }
-    marks_good(source_marks, column_sum(job_specs, 2, count))
-}
 
-// The number of the refusal, 0 for none.
-pub fn jobs_refusal(
-    count: usize,
-    job_ids: &[u64],
-    job_marks: &[u8],
-    job_specs: &[u32],
-    source_marks: &[u8],
-    source_runs: &[u32],
-    source_views: &[u64],
-) -> u32
-    ensures { result ≡ jobs_refusal (lent_jobs count job_ids.now job_marks.now job_specs.now source_marks.now source_runs.now source_views.now) }
-{
-    if jobs_outside(count, job_specs) {
-        return 1;
+    // Refusals 1 and 2.
+    pub fn check(&self) -> Result<(), Refusal>
+        ensures { refused result ≡ jobs_refusal (jobs_in self.now) }
+    {
+        if jobs_outside(self.count, self.specs) {
+            return Err(Refusal::OutOfBounds);
+        }
+        if !self.at_capacity() {
+            return Err(Refusal::Misshapen);
+        }
+        if self.are_good() {
+            return Ok(());
+        }
+        Err(Refusal::Misshapen)
     }
-    if !jobs_at_capacity(
-        job_ids,
-        job_marks,
-        job_specs,
-        source_marks,
-        source_runs,
-        source_views,
-    ) {
-        return 2;
-    }
-    if good_jobs(count, job_ids, job_marks, job_specs, source_marks) {
-        return 0;
-    }
-    2
-}
-
-// "lent lengths disagree" or "a mark above 1" in the sources of a spec to validate or of a job to be added.
-pub fn sources_good(marks: &[u8], runs: &[u32], views: &[u64]) -> bool
-    ensures { result ≡ lengths_agree marks.now runs.now views.now && good_sources (lent_sources marks.now runs.now views.now) }
-{
-    if runs.len() != marks.len() {
-        return false;
-    }
-    if views.len() / 2 != marks.len() {
-        return false;
-    }
-    if views.len() % 2 != 0 {
-        return false;
-    }
-    marks_good(marks, marks.len())
 }

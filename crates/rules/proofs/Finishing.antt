@@ -10,7 +10,9 @@ use lib.ListN.{length, take, drop, length-append, take-append-drop}
 use lib.Seq.{take-append_seam, drop-append_seam}
 use borrow.Author.Tests.{ltb-true, ltb-false, eqb-true, eqb-false, lt-ltb, le-ltb, ne_eqb}
 use Rattle.rules.specs.Lists.{any, all, keep, leading, linked}
-use Rattle.rules.specs.Tables.{SourceId, Run, among, run_id}
+use Rattle.rules.specs.declared.tables.SourceId.{SourceId}
+use Rattle.rules.specs.declared.tables.Run.{Run}
+use Rattle.rules.specs.Tables.{among, run_id}
 use Rattle.rules.specs.Bounds.{falling_ids}
 use Rattle.rules.specs.Finish.{runs_left, output_place, with_output}
 use Rattle.rules.proofs.Lookups.{and_left, and_right}

@@ -8,7 +8,8 @@ use mathlib.Core.Option.{Option, some}
 use native.Mathlib.Omega.{arith}
 use lib.ListN.{length, length-append}
 use Rattle.rules.specs.Lists.{any, all, keep, first_with, linked, concat_map}
-use Rattle.rules.specs.Tables.{Ulid, same_ulid, ulid_below, Job}
+use Rattle.rules.specs.declared.tables.Ulid.{Ulid}
+use Rattle.rules.specs.Tables.{same_ulid, ulid_below, Job}
 use Rattle.rules.specs.Lent.{sources_of}
 use Rattle.rules.specs.Jobs.{job_with, inserted}
 use Rattle.rules.proofs.Lookups.{and_left, and_right, or_left, or_right, same-ulid}

@@ -5,16 +5,19 @@ use mathlib.Core.List.{List}
 use native.Mathlib.Omega.{arith}
 use lib.ListN.{length, take, length-append, length-drop, length-replicate, take-append-drop}
 use lib.Seq.{length-take-le}
-use Rattle.rules.specs.Lent.{laid}
+use Rattle.rules.specs.Lent.{laid, laid_with}
 
 -- "a laid slice keeps its length where the rows fit"
+pub length-laid_with : {A : Type 0} (z : A) (used : ℕ) (new s : List A) → used ≤ length s → length new ≤ length s → length (laid_with z used new s) ≡ length s
+unfolding laid_with
+length-laid_with z used new s h l = simp (length-append, length-replicate, length-drop) (omega arith)
+
 pub length-laid : (used : ℕ) (new s : List ℕ) → used ≤ length s → length new ≤ length s → length (laid used new s) ≡ length s
-unfolding laid
-length-laid used new s h l = simp (length-append, length-replicate, length-drop) (omega arith)
+length-laid = length-laid_with 0
 
 -- laying what stood there
 pub laid_same : (used : ℕ) (s : List ℕ) → used ≤ length s → laid used (take used s) s ≡ s
-unfolding laid
+unfolding laid_with
 laid_same used s h =
     rw (length-take-le used s h, nothing, larger) (take-append-drop used s)
   where

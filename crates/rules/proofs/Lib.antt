@@ -1,5 +1,6 @@
 -- Laws of the definitions, each once, for every crate above: of tables and rows, of look-ups and refusals, and of the two
 -- whole-number ends of the size limit.
+pub mod Refused
 pub mod Records
 pub mod Rows
 pub mod Appended

@@ -9,7 +9,8 @@ use lib.ListN.{length, get_or, length-map, get_or-map}
 use lib.Dec.{eqb}
 use borrow.Author.Tests.{eqb-true, eq-eqb, not-true}
 use Rattle.rules.specs.Lists.{any, all, first_with, leading, linked, distinct}
-use Rattle.rules.specs.Tables.{Ulid, same_ulid}
+use Rattle.rules.specs.declared.tables.Ulid.{Ulid}
+use Rattle.rules.specs.Tables.{same_ulid}
 use Rattle.rules.proofs.Records.{ulid-eq}
 
 -- ---- the parts of a test

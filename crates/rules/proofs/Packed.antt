@@ -9,7 +9,9 @@ use native.Mathlib.Numerals.{one-add}
 use native.Mathlib.Omega.{arith}
 use lib.ListN.{length, get_or}
 use Rattle.rules.specs.Lists.{all, concat_map, total}
-use Rattle.rules.specs.Tables.{L0Row, Run, Tree, Source, Job}
+use Rattle.rules.specs.declared.tables.Run.{Run}
+use Rattle.rules.specs.declared.tables.Source.{Source}
+use Rattle.rules.specs.Tables.{L0Row, Tree, Job}
 use Rattle.rules.specs.Lent.{LentTrees, LentJobs, rows_from, tree_at, trees_from, trees_of, job_at, jobs_from, jobs_of, l0_at, run_at, source_at, l0_count, run_count, source_count, l0_used, runs_used, sources_used, l0_of, runs_of, sources_of}
 use Rattle.rules.specs.Bounds.{is_mark, good_marks}
 use Rattle.rules.proofs.Rows.{length-rows_from, rows_from-append}

@@ -8,8 +8,10 @@ use lib.Dec.{lit<}
 use lib.ListN.{length, get_or, length-append, get_or-append}
 use lib.Seq.{get_or-append-add, get_or-append_seam}
 use Rattle.rules.specs.Lists.{concat_map}
-use Rattle.rules.specs.Tables.{L0Row, Run, Tree, Source, Job}
-use Rattle.rules.specs.Lent.{LentTrees, LentJobs, rows_from, ulid_at, l0_at, run_at, watermark_at, source_at, l0_count, run_count, source_count, trees_from, trees_of, jobs_from, jobs_of, laid, ulid_words, tree_words, watermark_mark_words, watermark_words, l0_words, job_mark_words, job_spec_words, l0_of, runs_of, sources_of, lay_trees, lay_jobs}
+use Rattle.rules.specs.declared.tables.Run.{Run}
+use Rattle.rules.specs.declared.tables.Source.{Source}
+use Rattle.rules.specs.Tables.{L0Row, Tree, Job}
+use Rattle.rules.specs.Lent.{LentTrees, LentJobs, rows_from, ulid_at, l0_at, run_at, watermark_at, source_at, l0_count, run_count, source_count, trees_from, trees_of, jobs_from, jobs_of, ulid_words, tree_words, watermark_mark_words, watermark_words, l0_words, job_mark_words, job_spec_words, l0_of, runs_of, sources_of, lay_trees, lay_jobs, laid_with}
 use Rattle.rules.proofs.Records.{ulid-eq, l0-eq, run-eq, watermark-eq, tree-eq, source-eq, job-eq}
 use Rattle.rules.proofs.Rows.{rows_are, number_at, concat_map-append}
 
@@ -54,7 +56,7 @@ one_more pre x = length-append pre (x ∷ [])
 
 module _ (t : LentTrees) (ts : List Tree) where
   l0-is : (k : ℕ) → k < length (l0_of ts) → l0_at (lay_trees t ts) k ≡ get_or (l0_of ts) k (l0_at t 0)
-  unfolding lay_trees laid
+  unfolding lay_trees laid_with
   l0-is k h =
       l0-eq
       (ulid l0_words 4 (λ v. refl) (l0_of ts) _ (l0_at t 0) k h (4 * k) 0 (lit< tt) (omega arith))
@@ -62,7 +64,7 @@ module _ (t : LentTrees) (ts : List Tree) where
       (column-at (λ (v : L0Row). v.size) (l0_of ts) _ (l0_at t 0) k h)
 
   run_is : (k : ℕ) → k < length (runs_of ts) → run_at (lay_trees t ts) k ≡ get_or (runs_of ts) k (run_at t 0)
-  unfolding lay_trees laid
+  unfolding lay_trees laid_with
   run_is k h =
       run-eq
       (column-at (λ (r : Run). r.id) (runs_of ts) _ (run_at t 0) k h)
@@ -73,19 +75,19 @@ module _ (t : LentTrees) (ts : List Tree) where
   no_tree = record { prefix = 0; watermark = watermark_at t 0; l0 = []; runs = [] }
 
   prefix-is : (k : ℕ) → k < length ts → get_or (lay_trees t ts).trees (3 * k) 0 ≡ (get_or ts k no_tree).prefix
-  unfolding lay_trees laid
+  unfolding lay_trees laid_with
   prefix-is k h = number tree_words 3 (λ x. refl) ts _ no_tree k h (3 * k) 0 (lit< tt) (omega arith)
 
   l0_count-is : (k : ℕ) → k < length ts → l0_count (lay_trees t ts) k ≡ length (get_or ts k no_tree).l0
-  unfolding lay_trees laid
+  unfolding lay_trees laid_with
   l0_count-is k h = number tree_words 3 (λ x. refl) ts _ no_tree k h (3 * k + 1) 1 (lit< tt) refl
 
   run_count-is : (k : ℕ) → k < length ts → run_count (lay_trees t ts) k ≡ length (get_or ts k no_tree).runs
-  unfolding lay_trees laid
+  unfolding lay_trees laid_with
   run_count-is k h = number tree_words 3 (λ x. refl) ts _ no_tree k h (3 * k + 2) 2 (lit< tt) refl
 
   watermark-is : (k : ℕ) → k < length ts → watermark_at (lay_trees t ts) k ≡ (get_or ts k no_tree).watermark
-  unfolding lay_trees laid
+  unfolding lay_trees laid_with
   watermark-is k h =
       watermark-eq
       (number watermark_mark_words 2 (λ x. refl) ts _ no_tree k h (2 * k) 0 (lit< tt) (omega arith))
@@ -124,7 +126,7 @@ module _ (t : LentJobs) (js : List Job) where
   source_in j = source_at j.source_marks j.source_runs j.source_views
 
   source_is : (k : ℕ) → k < length (sources_of js) → source_in (lay_jobs t js) k ≡ get_or (sources_of js) k (source_in t 0)
-  unfolding lay_jobs laid
+  unfolding lay_jobs laid_with
   source_is k h =
       source-eq
       (column-at (λ (s : Source). s.mark) (sources_of js) _ (source_in t 0) k h)
@@ -136,27 +138,27 @@ module _ (t : LentJobs) (js : List Job) where
   no_job = record { id = ulid_at [] 0; status = 0; drain = 0; prefix = 0; destination = 0; sources = [] }
 
   id-is : (k : ℕ) → k < length js → ulid_at (lay_jobs t js).job_ids (2 * k) ≡ (get_or js k no_job).id
-  unfolding lay_jobs laid
+  unfolding lay_jobs laid_with
   id-is k h = ulid (λ (j : Job). ulid_words j.id) 2 (λ j. refl) js _ no_job k h (2 * k) 0 (lit< tt) (omega arith)
 
   status-is : (k : ℕ) → k < length js → get_or (lay_jobs t js).job_marks (2 * k) 0 ≡ (get_or js k no_job).status
-  unfolding lay_jobs laid
+  unfolding lay_jobs laid_with
   status-is k h = number job_mark_words 2 (λ j. refl) js _ no_job k h (2 * k) 0 (lit< tt) (omega arith)
 
   drain-is : (k : ℕ) → k < length js → get_or (lay_jobs t js).job_marks (2 * k + 1) 0 ≡ (get_or js k no_job).drain
-  unfolding lay_jobs laid
+  unfolding lay_jobs laid_with
   drain-is k h = number job_mark_words 2 (λ j. refl) js _ no_job k h (2 * k + 1) 1 (lit< tt) refl
 
   job-prefix-is : (k : ℕ) → k < length js → get_or (lay_jobs t js).job_specs (3 * k) 0 ≡ (get_or js k no_job).prefix
-  unfolding lay_jobs laid
+  unfolding lay_jobs laid_with
   job-prefix-is k h = number job_spec_words 3 (λ j. refl) js _ no_job k h (3 * k) 0 (lit< tt) (omega arith)
 
   destination-is : (k : ℕ) → k < length js → get_or (lay_jobs t js).job_specs (3 * k + 1) 0 ≡ (get_or js k no_job).destination
-  unfolding lay_jobs laid
+  unfolding lay_jobs laid_with
   destination-is k h = number job_spec_words 3 (λ j. refl) js _ no_job k h (3 * k + 1) 1 (lit< tt) refl
 
   source_count-is : (k : ℕ) → k < length js → source_count (lay_jobs t js) k ≡ length (get_or js k no_job).sources
-  unfolding lay_jobs laid
+  unfolding lay_jobs laid_with
   source_count-is k h = number job_spec_words 3 (λ j. refl) js _ no_job k h (3 * k + 2) 2 (lit< tt) refl
 
   -- the jobs `now` after the jobs `pre`

@@ -2,7 +2,11 @@
 use Prim.Native.Nat.{ℕ}
 use mathlib.Core.Path.{◌≡◌}
 use mathlib.Core.List.{List}
-use Rattle.rules.specs.Tables.{Ulid, Watermark, L0Row, Run, Tree, Source, Job}
+use Rattle.rules.specs.declared.tables.Ulid.{Ulid}
+use Rattle.rules.specs.declared.tables.Watermark.{Watermark}
+use Rattle.rules.specs.declared.tables.Run.{Run}
+use Rattle.rules.specs.declared.tables.Source.{Source}
+use Rattle.rules.specs.Tables.{L0Row, Tree, Job}
 
 pub ulid-eq : {a b c d : ℕ} → a ≡ c → b ≡ d → ◌≡◌ {A = Ulid} (record { high = a; low = b }) (record { high = c; low = d })
 ulid-eq p q = λ i. record { high = p i; low = q i }

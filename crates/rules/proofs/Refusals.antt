@@ -7,7 +7,9 @@ use mathlib.Core.Option.{Option, some, none}
 use native.Mathlib.Omega.{arith}
 use Rattle.rules.specs.declared.Options.{Options}
 use Rattle.rules.specs.Lists.{◌given◌else◌}
-use Rattle.rules.specs.Tables.{Ulid, Run, Tree, Job}
+use Rattle.rules.specs.declared.tables.Ulid.{Ulid}
+use Rattle.rules.specs.declared.tables.Run.{Run}
+use Rattle.rules.specs.Tables.{Tree, Job}
 use Rattle.rules.specs.Lent.{LentTrees, LentJobs, trees_of, jobs_of}
 use Rattle.rules.specs.Bounds.{trees_outside, jobs_outside, trees_misshapen, jobs_misshapen}
 use Rattle.rules.specs.Limit.{limit_of}

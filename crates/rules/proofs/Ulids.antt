@@ -6,7 +6,11 @@ use mathlib.Core.Logic.{◌⊎◌, inl, inr}
 use native.Mathlib.Omega.{arith}
 use lib.Dec.{eqb, ltb}
 use borrow.Author.Tests.{ltb-true, ltb-false, eqb-true, eqb-false, lt-ltb, le-ltb, eq-eqb, ne_eqb}
-use Rattle.rules.specs.Tables.{Ulid, same_ulid, ulid_below}
+use Rattle.std.proofs.Common.{Some, Less, Equal, Greater, cond, is_lt}
+use Rattle.std.specs.Ordering.{is_some_and, partial_ordering_then, partial_lt}
+use Rattle.rules.specs.contracts.tables.UlidPartialOrd.TheImpl as UlidOrder
+use Rattle.rules.specs.declared.tables.Ulid.{Ulid}
+use Rattle.rules.specs.Tables.{same_ulid, ulid_below}
 
 -- "high word first, compared in that order"
 below-is : (a b : Ulid) → ulid_below a b ≡ true → (a.high < b.high) ⊎ ((a.high ≡ b.high) × (a.low < b.low))
@@ -58,3 +62,14 @@ below_total a b s h = go (ltb a.high b.high) (eqb a.high b.high) (ltb a.low b.lo
         let high = ltb-false a.high b.high e in
         let apart = eqb-false a.high b.high f in
         never (inl (omega arith))
+
+-- `<` of the code's ULIDs
+pub lt-below : (a b : Ulid) → partial_lt (UlidOrder.partial_cmp-value).it a b ≡ ulid_below a b
+lt-below a b = go (ltb a.high b.high) (eqb a.high b.high) (ltb a.low b.low) (eqb a.low b.low)
+  where
+    go : (x y z w : Bool) → is_some_and is_lt (partial_ordering_then (Some (cond x Less (cond y Equal Greater))) (Some (cond z Less (cond w Equal Greater)))) ≡ x || (y && z)
+    go true y z w = refl
+    go false false z w = refl
+    go false true true w = refl
+    go false true false true = refl
+    go false true false false = refl

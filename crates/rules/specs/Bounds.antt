@@ -1,7 +1,9 @@
 -- "Capacities", and refusals 1 and 2 of document 01.
 use Rattle.std.specs.Prelude.{ℕ, ◌*◌, List, [], ◌∷◌, map, Bool, false, ◌&&◌, ◌||◌, not, leb, ltb, eqb, length}
 use Rattle.rules.specs.Lists.{all, linked, distinct, ◌given◌else◌}
-use Rattle.rules.specs.Tables.{same_ulid, ulid_below, Run, Tree, Source, Job}
+use Rattle.rules.specs.declared.tables.Run.{Run}
+use Rattle.rules.specs.declared.tables.Source.{Source}
+use Rattle.rules.specs.Tables.{same_ulid, ulid_below, Tree, Job}
 use Rattle.rules.specs.Lent.{LentTrees, LentJobs, trees_of, jobs_of, l0_used, runs_used, sources_used, l0_of, runs_of}
 
 -- "1 to 32 trees; 512 L0 rows and 512 runs over all trees; 64 jobs; 1,024 source entries over all jobs; .. at most 64

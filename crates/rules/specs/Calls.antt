@@ -3,15 +3,16 @@
 use Rattle.std.specs.Prelude.{ℕ, zero, suc, List, [], ◌∷◌, length}
 use Rattle.std.proofs.Math.Option.{Option, some, none}
 use Rattle.rules.specs.declared.Options.{Options}
-use Rattle.rules.specs.declared.PlanAnswer.{PlanAnswer}
-use Rattle.rules.specs.declared.PlanAnswer.TheVariants.{Planned, Refused as plan_refused}
-use Rattle.rules.specs.declared.ValidateAnswer.{ValidateAnswer}
-use Rattle.rules.specs.declared.ValidateAnswer.TheVariants.{Accepted, Refused as validate_refused}
-use Rattle.rules.specs.declared.JobsAnswer.{JobsAnswer}
-use Rattle.rules.specs.declared.JobsAnswer.TheVariants.{Jobs, Refused as jobs_refused}
-use Rattle.rules.specs.declared.FinishAnswer.{FinishAnswer}
-use Rattle.rules.specs.declared.FinishAnswer.TheVariants.{Committed, SegmentMissing, Refused as finish_refused}
-use Rattle.rules.specs.Tables.{Ulid, Run, Tree, Job}
+use Rattle.rules.specs.Answers.{PlanAnswer, ValidateAnswer}
+use Rattle.rules.specs.Answers.PlanAnswer.{Planned, Refused as plan_refused}
+use Rattle.rules.specs.Answers.ValidateAnswer.{Accepted, Refused as validate_refused}
+use Rattle.rules.specs.Answers.{JobsAnswer}
+use Rattle.rules.specs.Answers.JobsAnswer.{Jobs, Refused as jobs_refused}
+use Rattle.rules.specs.Answers.{FinishAnswer}
+use Rattle.rules.specs.Answers.FinishAnswer.{Committed, SegmentMissing, Refused as finish_refused}
+use Rattle.rules.specs.declared.tables.Ulid.{Ulid}
+use Rattle.rules.specs.declared.tables.Run.{Run}
+use Rattle.rules.specs.Tables.{Tree, Job}
 use Rattle.rules.specs.Lent.{LentTrees, LentJobs, trees_of, jobs_of, lay_trees, lay_jobs}
 use Rattle.rules.specs.Limit.{limit_of}
 use Rattle.rules.specs.Plan.{Plan, planned}

@@ -6,7 +6,12 @@ use Rattle.std.specs.Float.{binary32}
 use Rattle.std.specs.Float.Ieee.{of_bits, of_int, mul, to_unsigned}
 use Rattle.rules.specs.declared.Options.{Options}
 use Rattle.rules.specs.Lists.{any, all, keep, first_with, leading, concat_map, total, one_above}
-use Rattle.rules.specs.Tables.{Ulid, L0Row, Run, Tree, Source, Job, SourceId, sorted_run, sst_view}
+use Rattle.rules.specs.declared.tables.Ulid.{Ulid}
+use Rattle.rules.specs.declared.tables.Run.{Run}
+use Rattle.rules.specs.declared.tables.Source.{Source}
+use Rattle.rules.specs.declared.tables.SourceId.{SourceId}
+use Rattle.rules.specs.declared.tables.SourceId.TheVariants.{SortedRun, SstView}
+use Rattle.rules.specs.Tables.{L0Row, Tree, Job}
 use Rattle.rules.specs.Limit.{limit_of}
 use Rattle.rules.specs.Chain.{chain, joined, held_back}
 use Rattle.rules.specs.Windows.{used_ids, passes, last, beginning_passes, up_to, lasting, eligible, greatest, window}
@@ -76,13 +81,13 @@ abbrev seven : Tree
 seven = tree 7 [] (run 10 50 ∷ run 9 50 ∷ [])
 
 abbrev bcd : Spec
-bcd = spec 0 (sst_view (ulid 2) ∷ sst_view (ulid 3) ∷ sst_view (ulid 4) ∷ []) 13
+bcd = spec 0 (SstView (ulid 2) ∷ SstView (ulid 3) ∷ SstView (ulid 4) ∷ []) 13
 
 abbrev ten_nine : Spec
-ten_nine = spec 7 (sorted_run 10 ∷ sorted_run 9 ∷ []) 9
+ten_nine = spec 7 (SortedRun 10 ∷ SortedRun 9 ∷ []) 9
 
 abbrev twelve_eleven : Spec
-twelve_eleven = spec 0 (sorted_run 12 ∷ sorted_run 11 ∷ []) 11
+twelve_eleven = spec 0 (SortedRun 12 ∷ SortedRun 11 ∷ []) 11
 
 -- ---- what a figure says
 
@@ -135,7 +140,7 @@ figures =
     ∷ chains four (1 ∷ 4 ∷ 5 ∷ []) 2
     -- (*) "Threshold 4, min 2, max 3, runs 5, 4, 3, 2, 1 of size 10, no L0: own list is 3, 2, 1 to 1, alone."
     ∷ owns (tree 0 [] (run 5 10 ∷ run 4 10 ∷ run 3 10 ∷ run 2 10 ∷ run 1 10 ∷ []))
-    (spec 0 (sorted_run 3 ∷ sorted_run 2 ∷ sorted_run 1 ∷ []) 1 ∷ [])
+    (spec 0 (SortedRun 3 ∷ SortedRun 2 ∷ SortedRun 1 ∷ []) 1 ∷ [])
     -- (*) "F = 3, no jobs. Plan whole: prefix 0, b c d to 13; prefix 7, 10 9 to 9; prefix 0, 12 11 to 11; passes 2. F =
     -- 2: the first two, passes 1. F = 0: none, passes 0."
     ∷ plans 3 (root ∷ seven ∷ []) [] (bcd ∷ ten_nine ∷ twelve_eleven ∷ []) 2
@@ -152,10 +157,10 @@ figures =
     ∷ finishes (source_run 12 ∷ source_run 11 ∷ []) 11 (run 11 200) root (tree 0 root.l0 (run 11 200 ∷ []))
     -- ours: "max entries or more" hold back the rows, and not more than max
     ∷ owns (tree 0 (row 1 ∷ row 2 ∷ []) (run 3 8 ∷ run 2 8 ∷ run 1 8 ∷ []))
-    (spec 0 (sorted_run 3 ∷ sorted_run 2 ∷ sorted_run 1 ∷ []) 1 ∷ [])
+    (spec 0 (SortedRun 3 ∷ SortedRun 2 ∷ SortedRun 1 ∷ []) 1 ∷ [])
     -- ours: a longer window is not tried after a shorter beginning failed, and Compacted holds no slot
     ∷ plans 1 (tree 0 [] (run 4 10 ∷ run 3 10 ∷ run 2 10 ∷ run 1 10 ∷ []) ∷ []) (job 3 (source_run 1 ∷ []) 1 ∷ [])
-    (spec 0 (sorted_run 3 ∷ sorted_run 2 ∷ []) 2 ∷ []) 1
+    (spec 0 (SortedRun 3 ∷ SortedRun 2 ∷ []) 2 ∷ []) 1
     -- ours: the adoption table, row by row as 01 writes it
     ∷ adopting none (0 ∷ 3 ∷ 4 ∷ 5 ∷ [])
     ∷ adopting (some (job 0 [] 0)) (3 ∷ [])

@@ -2,7 +2,12 @@
 use Rattle.std.specs.Prelude.{ℕ, List, [], ◌∷◌, ◌++◌, map, Bool, cond, ◌&&◌, ◌||◌, not, eqb, ltb, length, take, drop}
 use Rattle.std.proofs.Math.Option.{Option, some, none}
 use Rattle.rules.specs.Lists.{any, keep, first_with, leading, ◌given◌else◌}
-use Rattle.rules.specs.Tables.{Ulid, same_ulid, Watermark, L0Row, Run, Tree, Job, SourceId, sorted_run, sst_view, among, id_of, run_id, view_id, is_drain, with_status}
+use Rattle.rules.specs.declared.tables.Ulid.{Ulid}
+use Rattle.rules.specs.declared.tables.Watermark.{Watermark}
+use Rattle.rules.specs.declared.tables.Run.{Run}
+use Rattle.rules.specs.declared.tables.SourceId.{SourceId}
+use Rattle.rules.specs.declared.tables.SourceId.TheVariants.{SortedRun, SstView}
+use Rattle.rules.specs.Tables.{same_ulid, L0Row, Tree, Job, among, id_of, run_id, view_id, is_drain, with_status}
 use Rattle.rules.specs.Lent.{LentTrees, LentJobs, trees_of, jobs_of, runs_of}
 use Rattle.rules.specs.Bounds.{max_runs, trees_outside, jobs_outside, trees_misshapen, jobs_misshapen, falling_ids}
 use Rattle.rules.specs.Validation.{tree_with, is_empty}
@@ -45,8 +50,8 @@ mark_at u (some v) = record { view_mark = 1; sst_mark = 1; view = u; sst = v.sst
 -- "If the first source is an L0 view, the watermark takes it"
 abbrev pub finish_mark : List SourceId → Tree → Watermark
 finish_mark [] t = t.watermark
-finish_mark (sorted_run r ∷ xs) t = t.watermark
-finish_mark (sst_view u ∷ xs) t = mark_at u (row_of_view u t.l0)
+finish_mark (SortedRun r ∷ xs) t = t.watermark
+finish_mark (SstView u ∷ xs) t = mark_at u (row_of_view u t.l0)
 
 -- the tree after a finish
 unfoldable pub finish_tree : Job → Run → Tree → Tree
@@ -54,7 +59,7 @@ finish_tree j out t = record {
   prefix = t.prefix;
   watermark = finish_mark (named j) t;
   l0 = rows_left (named j) t.l0;
-  runs = with_output out (named j ++ (sorted_run j.destination ∷ [])) t.runs;
+  runs = with_output out (named j ++ (SortedRun j.destination ∷ [])) t.runs;
 }
 
 -- "the watermark moves to the first L0 row in table order that is a source, if any": the rows that are sources

@@ -2,7 +2,8 @@
 use Rattle.std.specs.Prelude.{ℕ, suc, List, [], ◌∷◌, Bool, cond, ◌&&◌, ◌||◌, not, eqb, ltb, length, get_or}
 use Rattle.std.proofs.Math.Option.{Option, some, none}
 use Rattle.rules.specs.Lists.{any, first_with, ◌given◌else◌}
-use Rattle.rules.specs.Tables.{Ulid, same_ulid, ulid_below, Job, active, finished, is_drain}
+use Rattle.rules.specs.declared.tables.Ulid.{Ulid}
+use Rattle.rules.specs.Tables.{same_ulid, ulid_below, Job, active, finished, is_drain}
 use Rattle.rules.specs.Lent.{LentJobs, jobs_of, sources_of}
 use Rattle.rules.specs.Bounds.{max_jobs, max_sources, jobs_outside, jobs_misshapen, jobs_refusal, good_job, lengths_agree}
 use Rattle.rules.specs.Validation.{lent_sources}

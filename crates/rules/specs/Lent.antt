@@ -2,7 +2,11 @@
 -- of width w from number i * w on.
 use Rattle.std.specs.Prelude.{ℕ, zero, suc, ◌+◌, ◌-◌, ◌*◌, max, List, [], ◌∷◌, ◌++◌, map, length, get_or, drop, replicate}
 use Rattle.rules.specs.Lists.{concat_map, total}
-use Rattle.rules.specs.Tables.{Ulid, Watermark, L0Row, Run, Tree, Source, Job}
+use Rattle.rules.specs.declared.tables.Ulid.{Ulid}
+use Rattle.rules.specs.declared.tables.Watermark.{Watermark}
+use Rattle.rules.specs.declared.tables.Run.{Run}
+use Rattle.rules.specs.declared.tables.Source.{Source}
+use Rattle.rules.specs.Tables.{L0Row, Tree, Job}
 
 pub record LentTrees : Type 0 where
   pub count : ℕ
@@ -133,10 +137,15 @@ sources_used j = total (rows_from (source_count j) 0 j.count)
 
 -- ---- laying
 
--- the numbers `new` at the front of a slice of which `used` numbers were in use: "Places that a call frees hold zeros;
--- other unused places keep their bytes."
-unfoldable pub laid : ℕ → List ℕ → List ℕ → List ℕ
-laid used new s = new ++ (replicate (used - length new) 0 ++ drop (max used (length new)) s)
+module _ {A : Type 0} where
+  -- the numbers `new` at the front of a slice of which `used` numbers were in use: "Places that a call frees hold zeros;
+  -- other unused places keep their bytes."
+  unfoldable pub laid_with : A → ℕ → List A → List A → List A
+  laid_with z used new s = new ++ (replicate (used - length new) z ++ drop (max used (length new)) s)
+
+-- so laid, of plain numbers
+abbrev pub laid : ℕ → List ℕ → List ℕ → List ℕ
+laid = laid_with 0
 
 abbrev pub ulid_words : Ulid → List ℕ
 ulid_words u = u.high ∷ u.low ∷ []

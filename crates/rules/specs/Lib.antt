@@ -1,6 +1,7 @@
 -- Document 01 as definitions. Read in this order.
 pub mod Lists
 pub mod Tables
+pub mod Answers
 pub mod Lent
 pub mod Bounds
 pub mod Limit

@@ -3,7 +3,10 @@ use Rattle.std.specs.Prelude.{ℕ, zero, suc, ◌+◌, min, List, [], ◌∷◌,
 use Rattle.std.proofs.Math.Option.{Option, some, none}
 use Rattle.rules.specs.declared.Options.{Options}
 use Rattle.rules.specs.Lists.{total, last_of}
-use Rattle.rules.specs.Tables.{SourceId, sorted_run, L0Row, Run, Tree, among, view_id}
+use Rattle.rules.specs.declared.tables.SourceId.{SourceId}
+use Rattle.rules.specs.declared.tables.Run.{Run}
+use Rattle.rules.specs.declared.tables.SourceId.TheVariants.{SortedRun}
+use Rattle.rules.specs.Tables.{L0Row, Tree, among, view_id}
 use Rattle.rules.specs.Windows.{passes, last, window}
 
 -- a proposal: a tiered spec
@@ -14,7 +17,7 @@ pub record Spec : Type 0 where
 
 -- what a picked spec uses of its tree
 abbrev pub spec_uses : Spec → List SourceId
-spec_uses s = s.sources ++ (sorted_run s.destination ∷ [])
+spec_uses s = s.sources ++ (SortedRun s.destination ∷ [])
 
 -- "Specs picked in this call are added."
 abbrev pub also : (SourceId → Bool) → Spec → SourceId → Bool
@@ -65,7 +68,7 @@ run_pick o fresh t [] = none
 run_pick o fresh t (i ∷ ids) =
     some
     (record {
-      spec = record { prefix = t.prefix; sources = map sorted_run (last_of o.max (i ∷ ids)); destination = last (i ∷ ids) };
+      spec = record { prefix = t.prefix; sources = map SortedRun (last_of o.max (i ∷ ids)); destination = last (i ∷ ids) };
       fresh = fresh;
     })
 

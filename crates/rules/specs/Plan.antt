@@ -3,7 +3,8 @@ use Rattle.std.specs.Prelude.{ℕ, zero, suc, ◌-◌, min, List, [], ◌∷◌,
 use Rattle.std.proofs.Math.Option.{Option, some, none}
 use Rattle.rules.specs.declared.Options.{Options}
 use Rattle.rules.specs.Lists.{keep, one_above}
-use Rattle.rules.specs.Tables.{SourceId, Tree, Job, among, active, holds_slot, is_drain}
+use Rattle.rules.specs.declared.tables.SourceId.{SourceId}
+use Rattle.rules.specs.Tables.{Tree, Job, among, active, holds_slot, is_drain}
 use Rattle.rules.specs.Lent.{runs_of}
 use Rattle.rules.specs.Windows.{used_ids}
 use Rattle.rules.specs.Pick.{Spec, Picked, pick, spec_uses, own_list, ids_of, last_run}

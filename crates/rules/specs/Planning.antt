@@ -2,7 +2,9 @@
 use Rattle.std.specs.Prelude.{ℕ, ◌+◌, ◌/◌, ◌^◌, min, List, [], ◌∷◌, map, Bool, ◌&&◌, ◌||◌, not, leb, ltb, length}
 use Rattle.rules.specs.declared.Options.{Options}
 use Rattle.rules.specs.Lists.{any, concat_map, total, ◌given◌else◌}
-use Rattle.rules.specs.Tables.{SourceId, sorted_run, sst_view, Tree}
+use Rattle.rules.specs.declared.tables.SourceId.{SourceId}
+use Rattle.rules.specs.declared.tables.SourceId.TheVariants.{SortedRun, SstView}
+use Rattle.rules.specs.Tables.{Tree}
 use Rattle.rules.specs.Lent.{LentTrees, LentJobs, trees_of, jobs_of, l0_used, runs_used, laid, ulid_words}
 use Rattle.rules.specs.Bounds.{max_concurrent, trees_outside, jobs_outside, trees_misshapen, jobs_misshapen}
 use Rattle.rules.specs.Pick.{Spec, sizes_of, l0_sizes_of}
@@ -47,16 +49,16 @@ plan_refusal o t j p =
 -- ---- the plan in the lent slices. Where a call makes a row, its idle parts are zeros
 
 abbrev pub mark_of : SourceId → ℕ
-mark_of (sorted_run r) = 1
-mark_of (sst_view v) = 0
+mark_of (SortedRun r) = 1
+mark_of (SstView v) = 0
 
 abbrev pub run_of : SourceId → ℕ
-run_of (sorted_run r) = r
-run_of (sst_view v) = 0
+run_of (SortedRun r) = r
+run_of (SstView v) = 0
 
 abbrev pub view_words : SourceId → List ℕ
-view_words (sorted_run r) = 0 ∷ 0 ∷ []
-view_words (sst_view v) = ulid_words v
+view_words (SortedRun r) = 0 ∷ 0 ∷ []
+view_words (SstView v) = ulid_words v
 
 abbrev pub spec_words : Spec → List ℕ
 spec_words s = s.prefix ∷ s.destination ∷ length s.sources ∷ []

@@ -2,7 +2,10 @@
 use Rattle.std.specs.Prelude.{ℕ, min, List, [], ◌∷◌, ◌++◌, map, Bool, true, false, ◌&&◌, ◌||◌, not, eqb, length}
 use Rattle.std.proofs.Math.Option.{Option, some, none}
 use Rattle.rules.specs.Lists.{first_with, ◌given◌else◌}
-use Rattle.rules.specs.Tables.{SourceId, sorted_run, sst_view, Tree, Source, same_id, id_of, run_id, view_id}
+use Rattle.rules.specs.declared.tables.SourceId.{SourceId}
+use Rattle.rules.specs.declared.tables.Source.{Source}
+use Rattle.rules.specs.declared.tables.SourceId.TheVariants.{SortedRun, SstView}
+use Rattle.rules.specs.Tables.{Tree, same_id, id_of, run_id, view_id}
 use Rattle.rules.specs.Lent.{LentTrees, trees_of, rows_from, source_at}
 use Rattle.rules.specs.Bounds.{trees_outside, trees_misshapen, is_mark, good_sources, lengths_agree}
 
@@ -52,8 +55,8 @@ lower r (some s) = min r s
 -- "the lowest run among the sources"
 unfoldable pub lowest_run : List SourceId → Option ℕ
 lowest_run [] = none
-lowest_run (sorted_run r ∷ xs) = some (lower r (lowest_run xs))
-lowest_run (sst_view v ∷ xs) = lowest_run xs
+lowest_run (SortedRun r ∷ xs) = some (lower r (lowest_run xs))
+lowest_run (SstView v ∷ xs) = lowest_run xs
 
 -- 9: "destination not the lowest run among the sources"; "With no run among them the destination is not looked at."
 abbrev pub wrong_destination : ℕ → Option ℕ → Bool

@@ -2,12 +2,14 @@
 -- of one length), over any limit and any account of what is used.
 use Rattle.std.specs.Prelude.{ℕ, zero, suc, List, [], ◌∷◌, ◌++◌, map, Bool, true, cond, ◌&&◌, not, leb, eqb, length, take, drop}
 use Rattle.rules.specs.Lists.{all, keep, concat_map, total}
-use Rattle.rules.specs.Tables.{SourceId, sorted_run, Job, id_of, active, is_drain}
+use Rattle.rules.specs.declared.tables.SourceId.{SourceId}
+use Rattle.rules.specs.declared.tables.SourceId.TheVariants.{SortedRun}
+use Rattle.rules.specs.Tables.{Job, id_of, active, is_drain}
 use Rattle.rules.specs.Chain.{chain, held_back}
 
 -- "every source of its active jobs, and the destinations of its tiered ones, as run ids": of one job
 abbrev pub job_uses : Job → List SourceId
-job_uses j = map id_of j.sources ++ cond (is_drain j) [] (sorted_run j.destination ∷ [])
+job_uses j = map id_of j.sources ++ cond (is_drain j) [] (SortedRun j.destination ∷ [])
 
 -- "Used ids of a tree: every source of its active jobs, and ..": by the tree's prefix, so that "A job of an unknown prefix
 -- blocks no tree"
@@ -18,7 +20,7 @@ used_ids js prefix = concat_map job_uses (keep (λ j. active j && eqb j.prefix p
 -- `size`: the sum of the sources; `rest`: the sizes from the next run on
 unfoldable pub passes : (ℕ → ℕ) → ℕ → (SourceId → Bool) → List SourceId → ℕ → ℕ → List ℕ → Bool
 passes lim most used sources destination size rest =
-    all (λ x. not (used x)) (sources ++ (sorted_run destination ∷ [])) && not (held_back lim most size rest)
+    all (λ x. not (used x)) (sources ++ (SortedRun destination ∷ [])) && not (held_back lim most size rest)
 
 -- the last number, 0 for none
 unfoldable pub last : List ℕ → ℕ
@@ -29,7 +31,7 @@ last (x ∷ (y ∷ ys)) = last (y ∷ ys)
 -- the beginning of length k passes, "with destination its last run and next run the one after"
 unfoldable pub beginning_passes : (ℕ → ℕ) → ℕ → (SourceId → Bool) → List ℕ → List ℕ → ℕ → Bool
 beginning_passes lim most used ids sizes k =
-    passes lim most used (map sorted_run (take k ids)) (last (take k ids)) (total (take k sizes)) (drop k sizes)
+    passes lim most used (map SortedRun (take k ids)) (last (take k ids)) (total (take k sizes)) (drop k sizes)
 
 -- p holds of 1 to k
 unfoldable pub up_to : (ℕ → Bool) → ℕ → Bool

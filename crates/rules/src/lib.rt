@@ -1,5 +1,8 @@
-// Document 01's options, answers and capacities as types and constants. What is right is said in specs/.
+// Document 01's options, tables, answers and capacities as types and constants. What is right is said in specs/.
 #![tactic(auto)]
+
+pub mod answers;
+pub mod tables;
 
 // "The options stay one record with the float threshold in it."
 #[repr(C)]
@@ -9,34 +12,6 @@ pub struct Options {
     pub max: u32,
     pub concurrent: u32,
     pub threshold: f32,
-}
-
-// The answers of the public calls. `Refused` holds 01's number.
-#[derive(Clone, Copy)]
-pub enum PlanAnswer {
-    Planned { specs: usize, passes: usize },
-    Refused(u32),
-}
-
-#[derive(Clone, Copy)]
-pub enum ValidateAnswer {
-    Accepted,
-    Refused(u32),
-}
-
-// Adding, merging and retention answer the new job count.
-#[derive(Clone, Copy)]
-pub enum JobsAnswer {
-    Jobs(usize),
-    Refused(u32),
-}
-
-// Finish and drain.
-#[derive(Clone, Copy)]
-pub enum FinishAnswer {
-    Committed,
-    SegmentMissing,
-    Refused(u32),
 }
 
 // "Capacities: 1 to 32 trees; 512 L0 rows and 512 runs over all trees; 64 jobs; 1,024 source entries over all jobs;

@@ -18,7 +18,8 @@ fn whole_part(p: f32) -> u64
     digits << (exponent - 150)
 }
 
-// `p as u64`, worked out by hand where it loses bits. Not-a-number passes neither test.
+// `p as u64`, by hand and not by std's `saturating_f32_to_u64`: 01 wants it "worked out by hand where bits are lost". Not-a-number
+// passes neither test.
 pub fn cut(p: f32) -> u64
     ensures { CutOut p result }
 {

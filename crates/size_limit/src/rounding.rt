@@ -6,20 +6,14 @@ ghost use Rattle.size_limit.specs.Ends.{RoundedIn};
 // The first number that has more digits than the 24 of a single.
 const TWO_TO_24: u64 = 16777216;
 
-// How many low digits of s a single has to drop. Halving counts them one by one.
+// How many low digits of s a single has to drop.
 fn dropped(s: u64) -> u32
     ensures { result ≡ Limit.dropped s }
 {
-    let mut q = s;
-    let mut e: u32 = 0;
-    while q >= TWO_TO_24 {
-        q = q / 2;
-        e += 1;
-    }
-    e
+    (64 - s.leading_zeros()).saturating_sub(24)
 }
 
-// The digits of s that a single keeps where it drops e: s / 2^e to the nearest whole number, a tie to the even one.
+// By hand, as 01 wants it where bits are lost: the digits of s that a single keeps where it drops e: s / 2^e to the nearest whole number, a tie to the even one.
 fn kept(s: u64, e: u32) -> u64
     requires { e ≡ Limit.dropped s }
     ensures { result ≡ Limit.kept s }

@@ -1,15 +1,32 @@
 -- The loops of validation: sources held against places p + k of a list, and places tried one after the other.
 use Prim.Native.Nat.{ℕ, ◌+◌, ◌-◌, ◌≤◌, ◌<◌}
-use mathlib.Core.Path.{◌≡◌, sym, ap, ◌∙◌}
+use mathlib.Core.Path.{◌≡◌, refl, sym, ap, ◌∙◌}
 use mathlib.Core.List.{List}
-use mathlib.Core.Bool.{Bool, true, false}
+use mathlib.Core.Bool.{Bool, true, false, not}
 use native.Mathlib.Nat.{add-zero, sub-zero}
 use native.Mathlib.Omega.{arith}
-use Rattle.rules.specs.Tables.{SourceId, same_id}
+use Rattle.rules.specs.declared.tables.SourceId.{SourceId}
+use Rattle.rules.specs.declared.tables.SourceId.TheVariants.{SortedRun, SstView}
+use Rattle.rules.specs.contracts.tables.SourceIdPartialEq.TheImpl.{ghosts}
+use Rattle.rules.specs.Tables.{same_id}
 use Rattle.rules.specs.Lent.{rows_from}
 use Rattle.rules.specs.Validation.{starts_with, consecutive}
 use Rattle.rules.proofs.Rows.{rows_next, rows_end}
 use Rattle.rows.proofs.Scans.{Left, scan-next, scan-stops, scan-ends}
+
+-- the derived equality of what sources name, and what `!=` says by it
+eq-same : (x y : SourceId) → ghosts.eq x y ≡ same_id x y
+eq-same (SortedRun a) (SortedRun b) = refl
+eq-same (SortedRun a) (SstView v) = refl
+eq-same (SstView u) (SortedRun b) = refl
+eq-same (SstView u) (SstView v) = refl
+
+pub ne-same : (x y : SourceId) (r : Bool) → r ≡ not (ghosts.eq x y) → same_id x y ≡ not r
+ne-same x y r e = go r (same_id x y) (e ∙ ap not (eq-same x y))
+  where
+    go : (b d : Bool) → b ≡ not d → d ≡ not b
+    go b true e = sym (ap not e)
+    go b false e = sym (ap not e)
 
 -- the sources from source k on stand from place p + k on exactly if v
 pub record Matches (f g : ℕ → SourceId) (places n p k : ℕ) (v : Bool) : Type 0 where
@@ -60,6 +77,6 @@ module _ (xs : List SourceId) {f : ℕ → SourceId} {places p : ℕ} {v : Bool}
       scan-next l h (rw (sym (e ∙ ap (λ (ys : List SourceId). starts_with ys xs) next)))
 
   -- past the last place
-  pub places-end : places ≤ p → starts_with (rows_from f p (places - p)) xs ≡ v
+  pub places-end : p ≡ places → starts_with (rows_from f places (places - places)) xs ≡ v
   unfolding consecutive
-  places-end h = rw (rows_end f p places h) (scan-ends l h)
+  places-end e = rw (rows_end f places places (omega arith)) (scan-ends l (omega (arith, e)))

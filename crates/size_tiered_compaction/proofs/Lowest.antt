@@ -5,8 +5,9 @@ use mathlib.Core.List.{List, [], ◌∷◌}
 use mathlib.Core.Option.{Option, some, none}
 use native.Mathlib.Nat.{sub-zero}
 use native.Mathlib.Omega.{arith}
-use borrow.Author.Tests.{eq-eqb, ne_eqb}
-use Rattle.rules.specs.Tables.{Ulid, SourceId, sorted_run, sst_view, id_of}
+use Rattle.rules.specs.declared.tables.Ulid.{Ulid}
+use Rattle.rules.specs.declared.tables.SourceId.{SourceId}
+use Rattle.rules.specs.declared.tables.SourceId.TheVariants.{SortedRun, SstView}
 use Rattle.rules.specs.Lent.{rows_from}
 use Rattle.rules.specs.Validation.{lowest_run}
 use Rattle.rules.proofs.Rows.{rows_next, rows_end}
@@ -27,8 +28,8 @@ joined-none (some x) = refl
 
 first-low : (s : SourceId) (xs : List SourceId) → lowest_run (s ∷ xs) ≡ joined_low (lowest_run (s ∷ [])) (lowest_run xs)
 unfolding lowest_run
-first-low (sorted_run r) xs = refl
-first-low (sst_view v) xs = refl
+first-low (SortedRun r) xs = refl
+first-low (SstView v) xs = refl
 
 -- at source k: the lowest so far, with that of the sources left, is that of all
 pub record Lower (g : ℕ → SourceId) (n k : ℕ) (low : Option ℕ) : Type 0 where
@@ -53,26 +54,24 @@ module _ {g : ℕ → SourceId} {n : ℕ} where
     low-ends h = sym (joined-none low) ∙ ap (λ (xs : List SourceId). joined_low low (lowest_run xs)) (sym (rows_end g k n h)) ∙ l.test
 
 -- ---- one source more: a view makes no difference, a run may be the lowest
-module _ (mark run : ℕ) (view : Ulid) where
-  abbrev one : List SourceId
-  one = id_of (record { mark = mark; run = run; view = view }) ∷ []
-
-  pub view-more : (low : Option ℕ) → (mark ≡ 1 → ⊥) → low ≡ joined_low low (lowest_run one)
+module _ (low : Option ℕ) where
+  pub view-more : (view : Ulid) → low ≡ joined_low low (lowest_run (SstView view ∷ []))
   unfolding lowest_run
-  view-more low n = rw (ne_eqb mark 1 n) (sym (joined-none low))
+  view-more view = sym (joined-none low)
 
-  pub run-first : (low : Option ℕ) → mark ≡ 1 → low ≡ none → some run ≡ joined_low low (lowest_run one)
-  unfolding lowest_run
-  run-first low e z = rw (z, eq-eqb mark 1 e)
+  module _ (run : ℕ) where
+    pub run-first : low ≡ none → some run ≡ joined_low low (lowest_run (SortedRun run ∷ []))
+    unfolding lowest_run
+    run-first z = rw z
 
-  pub run-lower : (low : Option ℕ) (x : ℕ) → mark ≡ 1 → low ≡ some x → run < x → some run ≡ joined_low low (lowest_run one)
-  unfolding lowest_run
-  run-lower low x e z h =
-      let least : min x run ≡ run = omega arith in
-      rw (z, eq-eqb mark 1 e, least)
+    pub run-lower : (x : ℕ) → low ≡ some x → run < x → some run ≡ joined_low low (lowest_run (SortedRun run ∷ []))
+    unfolding lowest_run
+    run-lower x z h =
+        let least : min x run ≡ run = omega arith in
+        rw (z, least)
 
-  pub run-higher : (low : Option ℕ) (x : ℕ) → mark ≡ 1 → low ≡ some x → x ≤ run → some x ≡ joined_low low (lowest_run one)
-  unfolding lowest_run
-  run-higher low x e z h =
-      let least : min x run ≡ x = omega arith in
-      rw (z, eq-eqb mark 1 e, least)
+    pub run-higher : (x : ℕ) → low ≡ some x → x ≤ run → some x ≡ joined_low low (lowest_run (SortedRun run ∷ []))
+    unfolding lowest_run
+    run-higher x z h =
+        let least : min x run ≡ x = omega arith in
+        rw (z, least)

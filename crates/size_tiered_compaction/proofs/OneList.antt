@@ -11,14 +11,18 @@ use lib.ListN.{length, get_or, take, drop, length-take, length-drop}
 use lib.Seq.{get_or-take, get_or-drop}
 use borrow.Author.Tests.{lt-ltb, le-ltb}
 use Rattle.rules.specs.Lists.{leading}
-use Rattle.rules.specs.Tables.{Tree, SourceId, sorted_run, sst_view, view_id, run_id, id_of}
+use Rattle.rules.specs.declared.tables.SourceId.{SourceId}
+use Rattle.rules.specs.declared.tables.SourceId.TheVariants.{SortedRun, SstView}
+use Rattle.rules.specs.Tables.{Tree, view_id, run_id, id_of}
 use Rattle.rules.specs.Lent.{LentTrees, rows_from, l0_at, run_at, l0_count, run_count, source_at, tree_at, trees_of}
-use Rattle.rules.specs.Validation.{logical_order, lent_sources, is_empty, tree_with, tiered_refusal}
+use Rattle.rules.specs.Validation.{logical_order, is_empty, tree_with, tiered_refusal}
 use Rattle.rules.proofs.Rows.{rows_from-append, rows_from-same, map-rows_from}
 use Rattle.rules.proofs.Records.{ulid-eq}
 use Rattle.rows.specs.Read.{Stands}
 use Rattle.rows.proofs.Found.{tree-found, tree-missing}
-use Rattle.size_tiered_compaction.specs.LogicalOrder.{order_at, named_at}
+use Rattle.rows.specs.declared.sources.Sources.{Sources}
+use Rattle.rows.specs.InSlices.{sources_in}
+use Rattle.size_tiered_compaction.specs.LogicalOrder.{order_at, names_in}
 
 -- a number of a part
 part_at : (s : List ℕ) (from size i : ℕ) → i < size → get_or (take size (drop from s)) i 0 ≡ get_or s (from + i) 0
@@ -32,7 +36,7 @@ module _ (t : LentTrees) (i l r c d : ℕ) (rows : c ≡ l0_count t i) (runs : d
   ids = take (r + d - r) (drop r t.run_ids)
 
   view-at : (k : ℕ) → k < c → order_at views ids c (0 + k) ≡ view_id (l0_at t (l + k))
-  view-at k h = rw (zero-add k, lt-ltb k c h) (ap sst_view (ulid-eq (number (4 * k) (omega arith) ∙ ap (λ (n : ℕ). get_or t.l0_ids n 0) (high k)) (number (4 * k + 1) (omega arith) ∙ ap (λ (n : ℕ). get_or t.l0_ids n 0) (low k))))
+  view-at k h = rw (zero-add k, lt-ltb k c h) (ap SstView (ulid-eq (number (4 * k) (omega arith) ∙ ap (λ (n : ℕ). get_or t.l0_ids n 0) (high k)) (number (4 * k + 1) (omega arith) ∙ ap (λ (n : ℕ). get_or t.l0_ids n 0) (low k))))
     where
       number : (n : ℕ) → n < 4 * (l + c) - 4 * l → get_or views n 0 ≡ get_or t.l0_ids (4 * l + n) 0
       number n h = part_at t.l0_ids (4 * l) (4 * (l + c) - 4 * l) n h
@@ -46,7 +50,7 @@ module _ (t : LentTrees) (i l r c d : ℕ) (rows : c ≡ l0_count t i) (runs : d
   run-at : (k : ℕ) → k < d → order_at views ids c (c + k) ≡ run_id (run_at t (r + k))
   run-at k h =
       let over : c + k - c ≡ k = omega arith in
-      rw (le-ltb (c + k) c (omega arith), over) (ap sorted_run (part_at t.run_ids r (r + d - r) k (omega arith)))
+      rw (le-ltb (c + k) c (omega arith), over) (ap SortedRun (part_at t.run_ids r (r + d - r) k (omega arith)))
 
   pub one_list : logical_order (tree_at t i l r) ≡ rows_from (order_at views ids c) 0 (c + d)
   one_list =
@@ -58,8 +62,8 @@ module _ (t : LentTrees) (i l r c d : ℕ) (rows : c ≡ l0_count t i) (runs : d
       (ap (λ (n : ℕ). rows_from (order_at views ids c) n d) (zero-add c) ∙ rows_from-same (order_at views ids c) (λ k. run_id (run_at t k)) c r d run-at ∙ sym (map-rows_from run_id (run_at t) r d))))
 
 -- what the lent sources name
-pub names : (marks runs views : List ℕ) → map id_of (lent_sources marks runs views) ≡ rows_from (named_at marks runs views) 0 (length marks)
-names marks runs views = map-rows_from id_of (source_at marks runs views) 0 (length marks)
+pub names : (s : Sources) → map id_of (sources_in s) ≡ names_in s
+names s = map-rows_from id_of (source_at s.marks.now s.runs.now s.views.now) 0 (length s.marks.now)
 
 -- some sources are not none
 pub not-empty : (g : ℕ → SourceId) (n : ℕ) → (n ≡ 0 → ⊥) → is_empty (rows_from g 0 n) ≡ false

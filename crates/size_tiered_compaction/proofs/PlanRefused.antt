@@ -1,37 +1,26 @@
 -- The refusals of a planning call, check by check, and what a call that passes them all is known to be.
-use Prim.Native.Nat.{ℕ, ◌+◌, ◌*◌, ◌/◌, ◌≤◌, ◌<◌, min}
+use Prim.Native.Nat.{ℕ, ◌+◌, ◌≤◌, ◌<◌}
 use mathlib.Core.Path.{◌≡◌, refl, sym, ◌∙◌}
-use mathlib.Core.List.{List, []}
 use mathlib.Core.Bool.{Bool, true, false, ◌&&◌, ◌||◌}
 use native.Mathlib.Omega.{arith}
 use lib.Dec.{leb, ltb}
-use lib.ListN.{length, get_or}
-use borrow.Author.Tests.{lt-ltb, le-ltb, ltb-true, ltb-false, leb-true, not-false}
+use borrow.Author.Tests.{lt-ltb, le-ltb, ltb-false, leb-true, not-false}
 use Rattle.rules.specs.declared.Options.{Options}
-use Rattle.rules.specs.Lists.{total, ◌given◌else◌}
-use Rattle.rules.specs.Lent.{LentTrees, LentJobs, lent_trees, lent_jobs, rows_from, trees_of, jobs_of, l0_used, runs_used, sources_used}
+use Rattle.rules.specs.Lists.{◌given◌else◌}
+use Rattle.rules.specs.Lent.{LentTrees, LentJobs, trees_of, jobs_of, l0_used, runs_used, sources_used}
 use Rattle.rules.specs.Bounds.{max_concurrent, trees_outside, jobs_outside, trees_misshapen, jobs_misshapen}
 use Rattle.rules.specs.Plan.{free_slots}
-use Rattle.rules.specs.Planning.{LentPlan, bad_options, sizes_over, plan_too_small, plan_refusal}
+use Rattle.rules.specs.Planning.{LentPlan, bad_options, sizes_over, spec_places, source_places, plan_too_small, plan_refusal}
 use Rattle.rules.proofs.Bounds.{TreesGood, JobsGood}
 use Rattle.rules.proofs.Lookups.{and_left, and_right, or_left, or_right}
 use Rattle.rules.proofs.Refusals.{passed}
 use Rattle.rows.specs.Refusals.{tables_refusal}
 use Rattle.rows.proofs.TwoTables.{tables-good, tables-first}
 use Rattle.tree_pick.specs.Pick.{Bounded}
-use Rattle.plan_start.specs.Sizes.{over_from}
 use Rattle.plan_start.proofs.SizeSums.{flat-sizes}
-use Rattle.size_tiered_compaction.specs.Proposing.{planning_refusal, Lengths, Ready}
+use Rattle.size_tiered_compaction.specs.Proposing.{planning_refusal, Ready}
 
 -- ---- 3, 4 and 5
-
--- the least of three is below where the last is, if the others are not
-pub least-below : (rows marks runs views : ℕ) → rows ≤ marks → rows ≤ runs → ltb views rows ≡ ltb (min marks (min runs views)) rows
-least-below rows marks runs views h k = go (ltb views rows) refl
-  where
-    go : (b : Bool) → ltb views rows ≡ b → b ≡ ltb (min marks (min runs views)) rows
-    go true e = sym (lt-ltb (min marks (min runs views)) rows (omega (arith, ltb-true views rows e)))
-    go false e = sym (le-ltb (min marks (min runs views)) rows (omega (arith, ltb-false views rows e)))
 
 module _ (o : Options) (t : LentTrees) (j : LentJobs) (p : LentPlan) where
   pub options-refused : bad_options o ≡ true → 3 ≡ planning_refusal o t j p
@@ -51,23 +40,11 @@ module _ (o : Options) (t : LentTrees) (j : LentJobs) (p : LentPlan) where
     unfolding planning_refusal
     not-refused b c = rw (a, b, c)
 
-module _ (t : LentTrees) {count : ℕ} {trees : List ℕ} (n : t.count ≡ count) (s : t.trees ≡ trees) where
-  -- 4 as it is read off the slices
-  pub sizes-read : {l0_sizes run_sizes : List ℕ} → t.l0_sizes ≡ l0_sizes → t.run_sizes ≡ run_sizes
-      → total (rows_from (λ i. get_or trees (3 * i + 1) 0) 0 count) ≤ length l0_sizes → total (rows_from (λ i. get_or trees (3 * i + 2) 0) 0 count) ≤ length run_sizes
-      → (r : Bool) → r ≡ over_from trees l0_sizes run_sizes 0 0 0 count → sizes_over (trees_of t) ≡ r
-  unfolding l0_used runs_used
-  sizes-read a b h k r e = flat-sizes t (rw (n, s, a) h) (rw (n, s, b) k) ∙ rw (n, s, a, b) (sym e)
-
-  -- 5 by lengths and counts
-  pub places-read : (o : Options) (j : LentJobs) (p : LentPlan) {specs marks runs views free rows more : ℕ} → Lengths specs marks runs views p → free ≡ free_slots o (jobs_of j)
-      → rows ≡ total (rows_from (λ i. get_or trees (3 * i + 1) 0) 0 count) → more ≡ total (rows_from (λ i. get_or trees (3 * i + 2) 0) 0 count)
-      → (r : Bool) → r ≡ ltb (specs / 3) free || ltb (min marks (min runs (views / 2))) (rows + more) → plan_too_small (free_slots o (jobs_of j)) t p ≡ r
-  unfolding plan_too_small l0_used runs_used
-  places-read o j p l f a b r e = rw (l.of_specs, l.of_marks, l.of_runs, l.of_views, n, s, ← f, ← a, ← b) (sym e)
-
-pub own-lengths : (p : LentPlan) → Lengths (length p.specs) (length p.marks) (length p.runs) (length p.views) p
-own-lengths p = record { of_specs = refl; of_marks = refl; of_runs = refl; of_views = refl }
+-- 5 by the counts
+pub places-read : (o : Options) (t : LentTrees) (j : LentJobs) (p : LentPlan) {free rows : ℕ} → free ≡ free_slots o (jobs_of j) → rows ≡ l0_used t + runs_used t
+    → (r : Bool) → r ≡ ltb (spec_places p) free || ltb (source_places p) rows → plan_too_small (free_slots o (jobs_of j)) t p ≡ r
+unfolding plan_too_small
+places-read o t j p a b r e = rw (← a, ← b) (sym e)
 
 -- ---- all of them
 
@@ -109,8 +86,7 @@ bounded-by o h =
       most = leb-true o.max 64 (and_right (leb 1 o.min && leb o.min o.max) (leb o.max 64) all);
     }
 
-pub ready : (o : Options) (t : LentTrees) (j : LentJobs) (p : LentPlan) → plan_refusal o t j p ≡ 0
-    → Ready o (lent_trees t.count t.trees [] [] t.l0_ids t.l0_sizes t.run_ids t.run_sizes) (lent_jobs j.count [] j.job_marks j.job_specs j.source_marks j.source_runs j.source_views)
+pub ready : (o : Options) (t : LentTrees) (j : LentJobs) (p : LentPlan) → plan_refusal o t j p ≡ 0 → Ready o t j
 unfolding plan_refusal tables_refusal l0_used runs_used sources_used
 ready o t j p z =
     let outside = trees_outside t || jobs_outside j in

@@ -1,13 +1,17 @@
 -- The answer of validation, case by case.
+use native.Mathlib.Omega.{arith}
 use Prim.Native.Nat.{ℕ, zero, suc, ◌*◌, ◌≤◌, ◌<◌}
 use mathlib.Core.Path.{◌≡◌, refl, sym, ap}
 use mathlib.Core.List.{map}
 use mathlib.Core.Bool.{Bool, true, false, ◌&&◌, ◌||◌, not}
-use native.Mathlib.Omega.{arith}
 use lib.Dec.{eqb}
 use lib.ListN.{length}
 use borrow.Author.Tests.{eqb-true, eq-eqb, ne_eqb, le-leb, lt-leb}
-use Rattle.rules.specs.declared.ValidateAnswer.TheVariants.{Accepted, Refused}
+use Rattle.std.specs.Prelude.{Result}
+use Rattle.std.specs.declared.result.Result.TheVariants.{Ok, Err}
+use Rattle.rules.specs.declared.answers.Refusal.{Refusal}
+use Rattle.rules.specs.Answers.{number_of, refused, validate_answer}
+use Rattle.rules.specs.Answers.ValidateAnswer.{Accepted, Refused}
 use Rattle.rules.specs.Lists.{◌given◌else◌}
 use Rattle.rules.specs.Tables.{id_of}
 use Rattle.rules.specs.Lent.{LentTrees, trees_of}
@@ -16,6 +20,10 @@ use Rattle.rules.specs.Validation.{LentSpec, lent_sources, spec_misshapen, tree_
 use Rattle.rules.specs.Calls.{validate_by, validate_call}
 use Rattle.rules.proofs.Bounds.{TreesGood, trees-good}
 use Rattle.rules.proofs.Lookups.{and_left, and_right}
+use Rattle.rules.proofs.Refused.{numbered}
+use Rattle.rows.specs.declared.sources.Sources.{Sources}
+use Rattle.rows.specs.InSlices.{sources_in}
+use Rattle.size_tiered_compaction.specs.LogicalOrder.{Agree}
 
 module _ (t : LentTrees) (s : LentSpec) where
   -- the trees are refused
@@ -61,22 +69,23 @@ module _ (s : LentSpec) where
       go true b = refl
       go false b = refl
 
-  -- good sources agree in length
-  pub lengths : true ≡ lengths_agree s.marks s.runs s.views && good_sources (lent_sources s.marks s.runs s.views) → (length s.runs ≡ length s.marks) × (length s.views ≡ 2 * length s.marks)
-  lengths e =
-      let a = eqb (length s.runs) (length s.marks) in
-      let b = eqb (length s.views) (2 * length s.marks) in
-      let both = and_left (a && b) (good_sources (lent_sources s.marks s.runs s.views)) (sym e) in
-      (eqb-true _ _ (and_left a b both), eqb-true _ _ (and_right a b both))
+-- good sources agree in length
+pub agree : (s : Sources) → true ≡ lengths_agree s.marks.now s.runs.now s.views.now && good_sources (sources_in s) → Agree s
+agree s e =
+    let a = eqb (length s.runs.now) (length s.marks.now) in
+    let b = eqb (length s.views.now) (2 * length s.marks.now) in
+    let both = and_left (a && b) (good_sources (sources_in s)) (sym e) in
+    record { runs = eqb-true _ _ (and_left a b both); views = eqb-true _ _ (and_right a b both) }
 
--- "drain accepted at once", by the refusals before it
+-- ---- the answer by its number
+pub by-number : {A : Type 0} (r : Result A Refusal) → validate_answer r ≡ validate_by (refused r)
+by-number (Ok x) = refl
+by-number (Err r) = go (number_of r) (numbered r)
+  where
+    go : (v : ℕ) → (v ≡ 0 → ⊥) → Refused v ≡ validate_by v
+    go zero n = absurd (n refl)
+    go (suc v) n = refl
+
+-- so too by the refusals before it
 pub accepted_drain : (t : LentTrees) (s : LentSpec) → trees_refusal t ≡ 0 → lengths_agree s.marks s.runs s.views && good_sources (lent_sources s.marks s.runs s.views) ≡ true → s.drain ≡ 1 → validate_call t s ≡ Accepted
 accepted_drain t s a b d = sym (drain-accepted t s (trees-good t a) (own-sources s true (omega arith) (sym b)) d)
-
--- ---- the answer of a number
-pub by-refused : (v : ℕ) → (v ≡ 0 → ⊥) → Refused v ≡ validate_by v
-by-refused zero n = absurd (n refl)
-by-refused (suc v) n = refl
-
-pub by-accepted : (v : ℕ) → v ≡ 0 → Accepted ≡ validate_by v
-by-accepted v e = ap validate_by (sym e)

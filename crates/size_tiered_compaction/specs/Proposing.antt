@@ -1,7 +1,7 @@
 -- What planning's own functions say: which call is refused by itself, what the passes start from, what they leave.
 use Rattle.std.specs.Prelude.{ℕ, ◌*◌, ◌≤◌, ◌≡◌, List, false, length}
 use Rattle.rules.specs.declared.Options.{Options}
-use Rattle.rules.specs.declared.PlanAnswer.{PlanAnswer}
+use Rattle.rules.specs.Answers.{PlanAnswer}
 use Rattle.rules.specs.Lists.{◌given◌else◌}
 use Rattle.rules.specs.Lent.{LentTrees, LentJobs, trees_of, jobs_of, l0_used, runs_used, sources_used}
 use Rattle.rules.specs.Bounds.{max_trees, max_l0, max_runs, max_jobs, max_sources, max_concurrent}
@@ -11,8 +11,8 @@ use Rattle.rules.specs.Planning.{LentPlan, bad_options, sizes_over, plan_too_sma
 use Rattle.rules.specs.Calls.{PlanResult}
 use Rattle.tree_pick.specs.Pick.{Bounded}
 use Rattle.plan_start.specs.Sizes.{over_from}
-use Rattle.plan_passes.specs.declared.passes.Passes.{Passes}
-use Rattle.plan_passes.specs.Ask.{PicksWithin}
+use Rattle.plan_passes.specs.declared.picks.Picks.{Picks}
+use Rattle.plan_passes.specs.Picks.{PicksWithin, picks_in}
 use Rattle.plan_passes.specs.Passes.{Plans}
 
 -- the plan as a call is lent it, slice by slice, and what a call answers and leaves behind
@@ -30,14 +30,7 @@ planning_refusal o t j p =
     else 5 given plan_too_small (free_slots o (jobs_of j)) t p
     else 0
 
--- refusal 5 looks at no more of a plan than its lengths
-pub record Lengths (specs marks runs views : ℕ) (p : LentPlan) : Type 0 where
-  pub of_specs : length p.specs ≡ specs
-  pub of_marks : length p.marks ≡ marks
-  pub of_runs : length p.runs ≡ runs
-  pub of_views : length p.views ≡ views
-
--- what planning needs to know of a call that is not refused; watermarks and the ids of jobs have no part in it
+-- what planning needs to know of a call that is not refused
 pub record Ready (o : Options) (t : LentTrees) (j : LentJobs) : Type 0 where
   pub bounded : Bounded o
   pub concurrent : o.concurrent ≤ max_concurrent
@@ -59,7 +52,7 @@ pub record Ready (o : Options) (t : LentTrees) (j : LentJobs) : Type 0 where
   pub summed : over_from t.trees t.l0_sizes t.run_sizes 0 0 0 t.count ≡ false
 
 -- the picks are the plan
-pub record Picks (o : Options) (t : LentTrees) (j : LentJobs) (r : Passes) (picks : List ℕ) : Type 0 where
-  pub most : r.specs ≤ max_concurrent
-  pub within : PicksWithin picks r.specs
-  pub plans : Plans (planned (limit_of o.threshold) o (trees_of t) (jobs_of j)) r.specs r.passes picks t.l0_ids t.run_ids
+pub record Proposes (o : Options) (t : LentTrees) (j : LentJobs) (passes : ℕ) (picks : Picks) : Type 0 where
+  pub room : picks.count ≤ length picks.rows.now
+  pub within : PicksWithin (picks_in picks)
+  pub plans : Plans (planned (limit_of o.threshold) o (trees_of t) (jobs_of j)) t passes picks

@@ -10,7 +10,8 @@ use lib.Dec.{leb}
 use lib.ListN.{length, take, drop, get_or, length-drop}
 use lib.Seq.{take-suc, get_or-drop, drop-drop}
 use Rattle.rules.specs.Lists.{all, total}
-use Rattle.rules.specs.Tables.{SourceId, sorted_run}
+use Rattle.rules.specs.declared.tables.SourceId.{SourceId}
+use Rattle.rules.specs.declared.tables.SourceId.TheVariants.{SortedRun}
 use Rattle.rules.specs.Chain.{chain}
 use Rattle.rules.specs.Windows.{passes, beginning_passes, up_to, lasting, greatest}
 use Rattle.rules.proofs.Appended.{all_append}
@@ -25,7 +26,7 @@ pub record Begun (lim : ℕ → ℕ) (most : ℕ) (used : SourceId → Bool) (id
   pub within : k ≤ chain lim (drop a sizes)
   pub summed : size ≡ total (take k (drop a sizes))
   pub passed : up_to (beginning_passes lim most used (drop a ids) (drop a sizes)) k ≡ true
-  pub free : all (λ x. not (used x)) (map sorted_run (take k (drop a ids))) ≡ true
+  pub free : all (λ x. not (used x)) (map SortedRun (take k (drop a ids))) ≡ true
 
 -- the destination is the last source
 twice : (a b : Bool) → ((a && true) && (a && true)) && b ≡ (a && (a && true)) && b
@@ -38,7 +39,7 @@ longest lim most used ids sizes a = greatest (lasting lim most used (drop a ids)
 
 -- what it tries: run i, as the last of a beginning of this size
 abbrev passing : (ℕ → ℕ) → ℕ → (SourceId → Bool) → List ℕ → List ℕ → ℕ → ℕ → Bool
-passing lim most used ids sizes size i = passes lim most used (sorted_run (get_or ids i 0) ∷ []) (get_or ids i 0) size (drop (i + 1) sizes)
+passing lim most used ids sizes size i = passes lim most used (SortedRun (get_or ids i 0) ∷ []) (get_or ids i 0) size (drop (i + 1) sizes)
 
 module _ {lim : ℕ → ℕ} {most : ℕ} {used : SourceId → Bool} {ids sizes : List ℕ} {a : ℕ} where
   -- before the first run is tried
@@ -76,7 +77,7 @@ module _ {lim : ℕ → ℕ} {most : ℕ} {used : SourceId → Bool} {ids sizes 
             let there : k < length (drop a ids) = omega (arith, length-drop a ids) in
             let next : a + suc k ≡ a + k + 1 = omega arith in
             rw (take-suc (drop a ids) k 0, last-append, get_or-drop, map-append, all_append, all_append, b.free, sum, drop-drop, next)
-            (twice (not (used (sorted_run (get_or ids (a + k) 0)))) _)
+            (twice (not (used (SortedRun (get_or ids (a + k) 0)))) _)
 
         -- it fails: no longer window is tried
         pub begun-blocked : passing lim most used ids sizes grown (a + k) ≡ false → k ≡ longest lim most used ids sizes a
@@ -90,7 +91,7 @@ module _ {lim : ℕ → ℕ} {most : ℕ} {used : SourceId → Bool} {ids sizes 
         unfolding up_to all passes
         begun-next e =
             let there : k < length (drop a ids) = omega (arith, length-drop a ids) in
-            let new : not (used (sorted_run (get_or ids (a + k) 0))) ≡ true = and_left _ _ (and_left _ _ e) in
+            let new : not (used (SortedRun (get_or ids (a + k) 0))) ≡ true = and_left _ _ (and_left _ _ e) in
             record {
               fits = b.fits;
               within = omega arith;

@@ -1,5 +1,5 @@
 -- The last entries of a part, as a part.
-use Prim.Native.Nat.{ℕ, ◌+◌, ◌-◌, ◌≤◌, ◌<◌}
+use Prim.Native.Nat.{ℕ, ◌+◌, ◌-◌, ◌≤◌, min}
 use mathlib.Core.Path.{◌≡◌, sym, ap, ◌∙◌}
 use mathlib.Core.List.{List}
 use native.Mathlib.Omega.{arith}
@@ -19,16 +19,11 @@ module _ {ids : List ℕ} {from count : ℕ} {part : List ℕ} (l : Lies ids fro
   counted = sym (ap length l.is) ∙ length-take-le count (drop from ids) (omega (arith, length-drop from ids))
 
   -- "Should k exceed max, the front is dropped."
-  pub front-dropped : (most : ℕ) → most < count → Lies ids (from + (count - most)) most (last_of most part)
-  front-dropped most h = record {
-    within = omega arith;
+  pub clamped : (most : ℕ) {m : ℕ} → m ≡ min count most → Lies ids (from + (count - m)) m (last_of most part)
+  clamped most {m} e = record {
+    within = omega (arith, l.within, e);
     is =
-        let whole : count - most + most ≡ count = omega arith in
-        rw (counted, ← l.is) (rw whole at (part-of-part ids from (count - most) most (omega arith)));
+        let cut : count - most ≡ count - m = omega (arith, e) in
+        let whole : count - m + m ≡ count = omega (arith, e) in
+        rw (counted, cut, ← l.is) (rw whole at (part-of-part ids from (count - m) m (omega (arith, l.within))));
   }
-
-  -- it does not
-  pub none_dropped : (most : ℕ) → count ≤ most → Lies ids from count (last_of most part)
-  none_dropped most h =
-      let none : count - most ≡ 0 = omega arith in
-      record { within = l.within; is = rw (counted, none) l.is }

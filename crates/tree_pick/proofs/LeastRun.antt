@@ -1,15 +1,15 @@
 -- The window at the least run that has one, as a loop that is at run i finds it.
 use Prim.Native.Nat.{ℕ, zero, suc, ◌+◌, ◌≤◌, ◌<◌}
-use mathlib.Core.Path.{◌≡◌, refl, sym, ◌∙◌}
-use mathlib.Core.List.{List, ◌∷◌}
+use mathlib.Core.Path.{◌≡◌, refl, sym, ap, ◌∙◌}
+use mathlib.Core.List.{List, [], ◌∷◌}
 use mathlib.Core.Bool.{Bool, cond}
 use native.Mathlib.Numerals.{add-one}
 use native.Mathlib.Omega.{arith}
 use borrow.Author.Tests.{le-leb, lt-leb}
 use lib.Dec.{leb}
 use lib.ListN.{length, take, drop, get_or, length-drop, drop_of_length-le}
-use lib.Seq.{drop-cons, drop-drop}
-use Rattle.rules.specs.Tables.{SourceId}
+use lib.Seq.{drop-cons, drop-drop, length-take-le}
+use Rattle.rules.specs.declared.tables.SourceId.{SourceId}
 use Rattle.rules.specs.Windows.{lasting, eligible, greatest, or_later, window}
 use Rattle.tree_pick.specs.Window.{Lies}
 use Rattle.tree_pick.proofs.Beginnings.{longest}
@@ -52,16 +52,18 @@ module _ {lim : ℕ → ℕ} {least most : ℕ} {used : SourceId → Bool} {ids 
       }
 
       -- they are the window
-      pub search-finds : 0 < least → least ≤ k → Lies ids i k (window lim least most used ids sizes)
-      search-finds z g = record {
+      lies : 0 < least → least ≤ k → Lies ids i k (window lim least most used ids sizes)
+      lies z g = record {
         within = omega (arith, length-drop i ids, greatest-within (lasting lim most used (drop i ids) (drop i sizes)) (length (drop i ids)));
         is = sym (rw (le-leb least k g, taken k (drop i ids) _ (omega arith)) at (run-at lim least most used ids sizes i h e)) ∙ s.left;
       }
 
+      pub search-finds : 0 < least → least ≤ k → (0 < length (window lim least most used ids sizes)) × Lies ids i k (window lim least most used ids sizes)
+      search-finds z g =
+          let l = lies z g in
+          (omega (arith, sym (ap length l.is) ∙ length-take-le k (drop i ids) (omega (arith, l.within, length-drop i ids))), l)
+
     -- no run has one
-    pub search-ends : length ids ≤ i → Lies ids i 0 (window lim least most used ids sizes)
+    pub search-ends : length ids ≤ i → window lim least most used ids sizes ≡ []
     unfolding window
-    search-ends h = record {
-      within = omega arith;
-      is = rw (drop_of_length-le ids h) at s.left;
-    }
+    search-ends h = sym (rw (drop_of_length-le ids h) at s.left)

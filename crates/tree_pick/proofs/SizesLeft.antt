@@ -1,33 +1,27 @@
--- A loop that sums the sizes from row `from` on: what it has and the sum of the sizes that are left are the sum.
-use Prim.Native.Nat.{ℕ, ◌+◌, ◌≤◌, ◌<◌}
-use mathlib.Core.Path.{◌≡◌, ap}
-use mathlib.Core.List.{List}
-use native.Mathlib.Numerals.{add-one}
+-- The sum of the sizes from row `from` on.
+use Prim.Native.Nat.{ℕ, ◌+◌, ◌-◌, ◌^◌, ◌<◌}
+use mathlib.Core.Path.{◌≡◌, ap, ◌∙◌}
+use mathlib.Core.List.{List, [], ◌∷◌}
 use native.Mathlib.Omega.{arith}
-use lib.ListN.{length, drop, get_or, drop_of_length-le}
-use lib.Seq.{drop-cons}
+use lib.ListN.{length, take, drop, length-drop}
+use lib.Seq.{take_all}
+use Rattle.std.specs.Prelude.{sum, fold}
+use native.Mathlib.Nat.{add_assoc, zero-add}
 use Rattle.rules.specs.Lists.{total}
 use Rattle.tree_pick.proofs.Appended.{total-split}
 
-pub record SizesLeft (sizes : List ℕ) (from sum i : ℕ) : Type 0 where
-  pub within : i ≤ length sizes
-  pub left : sum + total (drop i sizes) ≡ total (drop from sizes)
+-- the library's sum is `total`
+from_sum : (n : ℕ) (xs : List ℕ) → fold ◌+◌ n xs ≡ n + total xs
+unfolding total
+from_sum n [] = omega arith
+from_sum n (x ∷ xs) = from_sum (n + x) xs ∙ add_assoc n x (total xs)
 
-pub sum-starts : {sizes : List ℕ} {from : ℕ} → from ≤ length sizes → SizesLeft sizes from 0 from
-sum-starts h = record { within = h; left = omega arith }
+sum-is : (xs : List ℕ) → sum xs ≡ total xs
+sum-is xs = from_sum 0 xs ∙ zero-add (total xs)
 
-module _ {sizes : List ℕ} {from sum i : ℕ} (s : SizesLeft sizes from sum i) where
-  module _ (h : i < length sizes) where
-    next : total (drop i sizes) ≡ get_or sizes i 0 + total (drop (i + 1) sizes)
-    unfolding total
-    next = rw (add-one, drop-cons sizes i 0)
+module _ (sizes : List ℕ) (from : ℕ) where
+  pub sizes-left : sum (take (length sizes - from) (drop from sizes)) ≡ total (drop from sizes)
+  sizes-left = sum-is (take (length sizes - from) (drop from sizes)) ∙ ap total (take_all (length sizes - from) (drop from sizes) (omega (arith, length-drop from sizes)))
 
-    pub sum_fits : sum + get_or sizes i 0 ≤ total sizes
-    sum_fits = omega (arith, next, total-split from sizes)
-
-    pub sum-next : SizesLeft sizes from (sum + get_or sizes i 0) (i + 1)
-    sum-next = record { within = omega arith; left = omega (arith, next) }
-
-  pub sum-ends : length sizes ≤ i → sum ≡ total (drop from sizes)
-  unfolding total
-  sum-ends h = omega (arith, ap total (drop_of_length-le sizes h))
+  pub sizes-fit : total sizes < 2 ^ 64 → sum (take (length sizes - from) (drop from sizes)) < 2 ^ 64
+  sizes-fit h = omega (arith, sizes-left, total-split from sizes)

@@ -1,43 +1,25 @@
--- A planning call's own tables: the trees in the order in which they are asked, and the picks.
-use Rattle.std.specs.Prelude.{ℕ, ◌+◌, ◌*◌, ◌≡◌, List, map, cond, eqb, get_or}
-use Rattle.rules.specs.Tables.{L0Row, Run, Tree, sorted_run, sst_view}
-use Rattle.rules.specs.Lent.{rows_from, ulid_at}
-use Rattle.rules.specs.Pick.{Spec}
-use Rattle.rules.specs.Plan.{State}
-use Rattle.tree_pick.specs.Conflict.{keys_of, used_in}
+-- The trees of a planning call, in the order in which they are asked.
+use Rattle.std.specs.Prelude.{ℕ, ◌+◌, ◌*◌, ◌≡◌, List, get_or, take, drop}
+use Rattle.rules.specs.Tables.{L0Row, Tree}
+use Rattle.rules.specs.Lent.{LentTrees, rows_from, ulid_at, l0_at, run_at}
+use Rattle.tree_pick.specs.declared.tree.AskedTree.{AskedTree}
+use Rattle.tree_pick.specs.declared.tree.TreePart.{TreePart}
 
--- L0 row and run i of the lent slices
+-- L0 row i of a tree's slices
 abbrev pub row_in : List ℕ → List ℕ → ℕ → L0Row
 row_in l0_ids l0_sizes i = record { view = ulid_at l0_ids (4 * i); sst = ulid_at l0_ids (4 * i + 2); size = get_or l0_sizes i 0 }
 
-abbrev pub run_in : List ℕ → List ℕ → ℕ → Run
-run_in run_ids run_sizes i = record { id = get_or run_ids i 0; size = get_or run_sizes i 0 }
+-- the tree's rows and runs lie there
+pub record AskedAt (a : AskedTree) (t : LentTrees) (x : Tree) : Type 0 where
+  pub prefix : x.prefix ≡ a.prefix
+  pub l0 : x.l0 ≡ rows_from (l0_at t) a.l0_from a.l0_count
+  pub runs : x.runs ≡ rows_from (run_at t) a.run_from a.run_count
 
--- the tree in row k of `asked`, five numbers a row: prefix, its first L0 row, how many, its first run, how many
-pub record AskedAt (asked l0_ids l0_sizes run_ids run_sizes : List ℕ) (k : ℕ) (t : Tree) : Type 0 where
-  pub prefix : t.prefix ≡ get_or asked (5 * k) 0
-  pub l0 : t.l0 ≡ rows_from (row_in l0_ids l0_sizes) (get_or asked (5 * k + 1) 0) (get_or asked (5 * k + 2) 0)
-  pub runs : t.runs ≡ rows_from (run_in run_ids run_sizes) (get_or asked (5 * k + 3) 0) (get_or asked (5 * k + 4) 0)
-
--- the spec in row k of `picks`, five numbers a row: prefix, destination, 1 for a run window, its first row, how many
-abbrev pub spec_at : List ℕ → List ℕ → List ℕ → ℕ → Spec
-spec_at picks l0_ids run_ids k = record {
-  prefix = get_or picks (5 * k) 0;
-  sources =
-      cond (eqb (get_or picks (5 * k + 2) 0) 1)
-      (map sorted_run (rows_from (λ i. get_or run_ids i 0) (get_or picks (5 * k + 3) 0) (get_or picks (5 * k + 4) 0)))
-      (map sst_view (rows_from (λ i. ulid_at l0_ids (4 * i)) (get_or picks (5 * k + 3) 0) (get_or picks (5 * k + 4) 0)));
-  destination = get_or picks (5 * k + 1) 0;
-}
-
-unfoldable pub picks_of : List ℕ → List ℕ → List ℕ → ℕ → List Spec
-picks_of picks l0_ids run_ids m = rows_from (spec_at picks l0_ids run_ids) 0 m
-
--- a planning call under way, as it lies in its tables: n used ids, m picks
-abbrev pub state_in : List ℕ → ℕ → ℕ → ℕ → List ℕ → ℕ → List ℕ → List ℕ → State
-state_in used n slots fresh picks m l0_ids run_ids = record {
-  used = used_in (keys_of used n);
-  slots = slots;
-  fresh = fresh;
-  specs = picks_of picks l0_ids run_ids m;
-}
+-- the parts of the slices, and of the table of chain lengths, that are the tree's
+pub record PartOf (a : AskedTree) (t : LentTrees) (chains : List ℕ) (p : TreePart) : Type 0 where
+  pub prefix : p.prefix ≡ a.prefix
+  pub l0_ids : p.l0_ids.now ≡ take (4 * a.l0_count) (drop (4 * a.l0_from) t.l0_ids)
+  pub l0_sizes : p.l0_sizes.now ≡ take a.l0_count (drop a.l0_from t.l0_sizes)
+  pub run_ids : p.run_ids.now ≡ take a.run_count (drop a.run_from t.run_ids)
+  pub run_sizes : p.run_sizes.now ≡ take a.run_count (drop a.run_from t.run_sizes)
+  pub lengths : p.chains.now ≡ take a.run_count (drop a.run_from chains)

@@ -5,4 +5,5 @@ pub mod backpressure;
 pub mod conflict;
 pub mod pick;
 pub mod run;
+pub mod tree;
 pub mod window;

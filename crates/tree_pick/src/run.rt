@@ -1,16 +1,17 @@
 // Chains: slatedb's build_compactable_run, whose "`Option<&TreeState>` becomes two builders, checked and unchecked".
-ghost use Rattle.std.specs.Prelude.{◌≡◌, [], ◌∷◌, ◌*◌, ◌<◌, ◌≤◌, length, drop};
+ghost use Rattle.std.specs.Prelude.{◌≡◌, [], ◌∷◌, ◌+◌, ◌<◌, ◌≤◌, length, get_or, drop};
 ghost use Rattle.rules.specs.Limit.{limit_of};
-ghost use Rattle.rules.specs.Tables.{sorted_run};
+ghost use Rattle.rules.specs.declared.tables.SourceId.TheVariants.{SortedRun};
 ghost use Rattle.rules.specs.Chain.{chain};
 ghost use Rattle.rules.specs.Windows.{passes, lasting, greatest};
-ghost use Rattle.tree_pick.specs.Conflict.{keys_of, used_in};
+ghost use Rattle.tree_pick.specs.Conflict.{used_in};
 ghost use Rattle.tree_pick.specs.Backpressure.{Chains};
 ghost use Rattle.tree_pick.specs.TreeState.{TreeState};
 
-use crate::backpressure::held_back;
-use crate::conflict::run_is_used;
+use crate::conflict::{Key, is_used};
+use crate::tree::TreePart;
 use rules::Options;
+use rules::tables::SourceId;
 
 // "Chain from run i: take run i; take each next run while its size is at most limit(smallest size taken so far).": how many
 // runs the chain from run `from` takes, used ids ignored. The unchecked builder.
@@ -22,68 +23,44 @@ pub fn build_compactable_run(o: Options, sizes: &[u64], from: usize) -> usize
         return 0;
     }
     let mut least = sizes[from];
-    let mut i = from + 1;
-    while i < sizes.len() {
-        let next = sizes[i];
-        if next > size_limit::limit(o.threshold, least) {
+    for i in from + 1..sizes.len() {
+        if sizes[i] > size_limit::limit(o.threshold, least) {
             return i - from;
         }
-        if next < least {
-            least = next;
-        }
-        i += 1;
+        least = least.min(sizes[i]);
     }
-    i - from
+    sizes.len() - from
 }
 
-// Whether a beginning of this size passes, all but its last run having passed before: that run is its destination too, so
-// that one look-up serves both (TreeState's check_compaction).
-fn check_beginning(
-    o: Options,
-    used: &[u64],
-    n: usize,
-    prefix: u32,
-    run: u32,
-    size: u64,
-    sizes: &[u64],
-    chains: &[usize],
-    next: usize,
-) -> bool
-    requires { (4 * n ≤ length used.now) × (next ≤ length sizes.now) × Chains (limit_of o.threshold) sizes.now chains.now }
-    ensures { result ≡ passes (limit_of o.threshold) o.max (used_in (keys_of used.now n) prefix) (sorted_run run ∷ []) run size (drop next sizes.now) }
-{
-    if run_is_used(used, n, prefix, run) {
-        return false;
-    }
-    !held_back(o, size, sizes, chains, next)
-}
-
-// The greatest length of a window at run `from`: "it lies within the chain from i, and each of its beginnings of length 1 to
-// k passes". The checked builder: the first beginning that fails ends it, "Trying a longer window after a shorter beginning
-// failed" is a mistake.
-pub fn build_checked_run(
-    o: Options,
-    used: &[u64],
-    n: usize,
-    prefix: u32,
-    ids: &[u32],
-    sizes: &[u64],
-    chains: &[usize],
-    from: usize,
-) -> usize
-    requires { (from < length ids.now) × TreeState (limit_of o.threshold) used.now n ids.now sizes.now chains.now }
-    ensures { result ≡ greatest (lasting (limit_of o.threshold) o.max (used_in (keys_of used.now n) prefix) (drop from ids.now) (drop from sizes.now)) (length (drop from ids.now)) }
-{
-    let longest = chains[from];
-    let mut size: u64 = 0;
-    let mut k = 0;
-    while k < longest {
-        let i = from + k;
-        size += sizes[i];
-        if !check_beginning(o, used, n, prefix, ids[i], size, sizes, chains, i + 1) {
-            return k;
+impl TreePart<'_> {
+    // Whether a beginning of this size passes that ends with run `i`, all but that run having passed before: it is its
+    // destination too, so that one look-up serves both (TreeState's check_compaction).
+    fn check_beginning(&self, o: Options, used: &[Key], i: usize, size: u64) -> bool
+        requires { (i < length self.now.run_ids.now) × (i < length self.now.run_sizes.now) × Chains (limit_of o.threshold) self.now.run_sizes.now self.now.chains.now }
+        ensures { result ≡ passes (limit_of o.threshold) o.max (used_in used.now self.now.prefix) (SortedRun (get_or self.now.run_ids.now i 0) ∷ []) (get_or self.now.run_ids.now i 0) size (drop (i + 1) self.now.run_sizes.now) }
+    {
+        if is_used(used, self.prefix, SourceId::SortedRun(self.run_ids[i])) {
+            return false;
         }
-        k += 1;
+        !self.held_back(o, size, i + 1)
     }
-    k
+
+    // The greatest length of a window at run `from`: "it lies within the chain from i, and each of its beginnings of length 1
+    // to k passes". The checked builder: the first beginning that fails ends it, "Trying a longer window after a shorter
+    // beginning failed" is a mistake.
+    pub fn build_checked_run(&self, o: Options, used: &[Key], from: usize) -> usize
+        requires { (from < length self.now.run_ids.now) × TreeState (limit_of o.threshold) self.now }
+        ensures { result ≡ greatest (lasting (limit_of o.threshold) o.max (used_in used.now self.now.prefix) (drop from self.now.run_ids.now) (drop from self.now.run_sizes.now)) (length (drop from self.now.run_ids.now)) }
+    {
+        let longest = self.chains[from];
+        let mut size: u64 = 0;
+        for k in 0..longest {
+            let i = from + k;
+            size += self.run_sizes[i];
+            if !self.check_beginning(o, used, i, size) {
+                return k;
+            }
+        }
+        longest
+    }
 }

@@ -29,7 +29,7 @@ module _ (t : LentTrees) (ts : List Tree) where
   laid-runs-used = sym (length_runs (lay_trees t ts)) ∙ ap (λ (us : List Tree). length (runs_of us)) (trees-back t ts)
 
 again : (used m : ℕ) (new new' s : List ℕ) → m ≡ length new → length new ≤ max used (length new') → laid m new' (laid used new s) ≡ laid used new' s
-again used m new new' s e h = rw e (laid-again used new new' s h)
+again used m new new' s e h = rw e (laid-again 0 used new new' s h)
 
 -- the trees us over the trees ts, where no slice held more than it did at first or holds at last
 pub lay-again : (t : LentTrees) (ts us : List Tree) → length ts ≤ max t.count (length us) → length (l0_of ts) ≤ max (l0_used t) (length (l0_of us)) → length (runs_of ts) ≤ max (runs_used t) (length (runs_of us))

@@ -1,50 +1,25 @@
 -- Counting the flags of one tree's rows.
-use Prim.Native.Nat.{ℕ, zero, suc, ◌+◌, ◌≤◌, ◌<◌}
-use mathlib.Core.Path.{◌≡◌, refl, ap}
+use Prim.Native.Nat.{ℕ, zero, suc, ◌+◌}
+use mathlib.Core.Path.{◌≡◌, refl, sym, ap}
 use mathlib.Core.List.{List, [], ◌∷◌, map}
-use mathlib.Core.Bool.{Bool, true, false, cond}
-use native.Mathlib.Numerals.{add-one}
+use mathlib.Core.Bool.{Bool, true, false, cond, not}
 use native.Mathlib.Omega.{arith}
-use lib.ListN.{length, get_or, drop}
-use lib.Seq.{drop-cons, drop-length}
+use lib.Dec.{eqb}
+use lib.ListN.{length}
+use borrow.Author.Tests.{ne_eqb}
+use Rattle.std.specs.List.{count_by}
+use Rattle.std.proofs.lemmas.List.Recursion.{is_count_by}
 use Rattle.rules.specs.Lists.{keep}
 use Rattle.rows.specs.Movers.{marked}
 
--- ---- the loop: with n counted at flag i, n and those that are left are all
-
-pub record Counted (flags : List ℕ) (n i : ℕ) : Type 0 where
-  pub upto : i ≤ length flags
-  pub within : n ≤ i
-  pub left : n + length (keep marked (drop i flags)) ≡ length (keep marked flags)
-
-pub count-starts : {flags : List ℕ} → Counted flags 0 0
-count-starts = record { upto = omega arith; within = omega arith; left = omega arith }
-
--- flag i
-next-flag : (flags : List ℕ) (i : ℕ) → i < length flags → length (keep marked (drop i flags)) ≡ cond (marked (get_or flags i 0)) 1 0 + length (keep marked (drop (i + 1) flags))
+-- as many flags are kept as are not 0
+pub kept_length : (flags : List ℕ) → count_by (λ x. not (eqb x 0)) flags ≡ length (keep marked flags)
 unfolding keep
-next-flag flags i h = rw (drop-cons flags i 0 h, add-one i) (go (marked (get_or flags i 0)) (keep marked (drop (suc i) flags)))
+kept_length flags = sym (is_count_by (λ (l : List ℕ). length (keep marked l)) (λ x. not (eqb x 0)) refl (λ x xs. step x xs) flags)
   where
-    go : (b : Bool) (l : List ℕ) → length (cond b (get_or flags i 0 ∷ l) l) ≡ cond b 1 0 + length l
-    go true l = omega arith
-    go false l = omega arith
-
-is-marked : (m : ℕ) → (m ≡ 0 → ⊥) → marked m ≡ true
-is-marked zero h = absurd (h refl)
-is-marked (suc m) h = refl
-
-module _ {flags : List ℕ} {n i : ℕ} (k : Counted flags n i) (h : i < length flags) where
-  pub count-one : {m : ℕ} → (get_or flags i 0 ≡ 0 → ⊥) → m ≡ n + 1 → Counted flags m (i + 1)
-  count-one e s = record { upto = omega arith; within = omega arith; left = omega (arith, k.left, rw (is-marked (get_or flags i 0) e) at (next-flag flags i h)) }
-
-  pub count_none : {m : ℕ} → get_or flags i 0 ≡ 0 → m ≡ n → Counted flags m (i + 1)
-  count_none e s = record { upto = omega arith; within = omega arith; left = omega (arith, k.left, rw e at (next-flag flags i h)) }
-
-pub count-ends : {flags : List ℕ} {n i : ℕ} → Counted flags n i → length flags ≤ i → n ≡ length (keep marked flags)
-unfolding keep
-count-ends {flags} {n} {i} k h =
-    let e : i ≡ length flags = omega arith in
-    omega (arith, rw (e, drop-length flags) at k.left)
+    step : (x : ℕ) (xs : List ℕ) → length (keep marked (x ∷ xs)) ≡ cond (not (eqb x 0)) (1 + length (keep marked xs)) (length (keep marked xs))
+    step zero xs = refl
+    step (suc x) xs = rw (ne_eqb (suc x) 0 (λ e. omega arith)) (omega arith)
 
 -- ---- how many are kept
 

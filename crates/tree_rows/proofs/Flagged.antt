@@ -6,7 +6,8 @@ use mathlib.Core.Bool.{Bool, true}
 use native.Mathlib.Omega.{arith}
 use lib.ListN.{length, get_or}
 use Rattle.rules.specs.Lists.{total}
-use Rattle.rules.specs.Tables.{L0Row, Run, Tree}
+use Rattle.rules.specs.declared.tables.Run.{Run}
+use Rattle.rules.specs.Tables.{L0Row, Tree}
 use Rattle.rules.specs.Lent.{LentTrees, rows_from, l0_at, run_at, l0_count, run_count, tree_at, trees_of, l0_used, runs_used}
 use Rattle.rules.proofs.Rows.{get_or-rows_from}
 use Rattle.rules.proofs.Packed.{length-trees_of, length-l0, length_runs, tree_is}

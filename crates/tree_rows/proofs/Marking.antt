@@ -4,10 +4,12 @@ use mathlib.Core.Path.{◌≡◌, refl, sym, ap, ◌∙◌}
 use mathlib.Core.List.{List}
 use native.Mathlib.Omega.{arith}
 use lib.ListN.{length, set}
-use Rattle.rules.specs.Tables.{Watermark}
-use Rattle.rules.specs.Lent.{LentTrees, trees_of, tree_at, lay_trees, watermark_mark_words, watermark_words}
+use Rattle.rules.specs.declared.tables.Watermark.{Watermark}
+use Rattle.rules.specs.Lent.{LentTrees, lent_trees, trees_of, tree_at, lay_trees, watermark_mark_words, watermark_words}
 use Rattle.rules.proofs.Packed.{length-trees_of}
 use Rattle.tree_rows.specs.Change.{changed_at, put_watermark}
+use Rattle.tree_rows.specs.Table.{with_watermarks}
+use Rattle.tree_rows.proofs.Again.{lent-eq}
 use Rattle.tree_rows.proofs.Standing.{marks-stand, watermarks-stand}
 use Rattle.tree_rows.proofs.OneRow.{apart, set-behind}
 
@@ -37,3 +39,9 @@ module _ (t : LentTrees) (i : ℕ) (there : i < t.count) (few : t.count ≤ 32) 
       ∙ ap (λ (r : List ℕ). set r (4 * i + 3) w.sst.low) (set-behind a.before _ (4 * i + 2) 2 w.sst.high (omega (arith, a.long)))
       ∙ set-behind a.before _ (4 * i + 3) 3 w.sst.low (omega (arith, a.long))
       ∙ sym (a.changed (put_watermark w))
+
+  -- the whole table
+  pub watermark-table : {marks words : List ℕ} → length t.watermark_marks ≡ 64 → length t.watermarks ≡ 128 → marks ≡ set (set t.watermark_marks (2 * i) w.view_mark) (2 * i + 1) w.sst_mark
+      → words ≡ set (set (set (set t.watermarks (4 * i) w.view.high) (4 * i + 1) w.view.low) (4 * i + 2) w.sst.high) (4 * i + 3) w.sst.low
+      → lent_trees t.count t.trees marks words t.l0_ids t.l0_sizes t.run_ids t.run_sizes ≡ with_watermarks t after
+  watermark-table a b c d = lent-eq refl refl (marks-put a refl c) (watermarks-put b refl d) refl refl refl refl

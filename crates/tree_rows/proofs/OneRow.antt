@@ -46,7 +46,7 @@ apart words w width ts n s count rows i there d = record {
       ∙ ap (λ (r : List ℕ). r ++ drop (w * n) s) (rows ∙ ap (concat_map words) (split_at ts i d (omega arith)))
       ∙ parts (get_or ts i d);
   changed = λ f.
-      grown (w * n) (concat_map words (changed_at i f ts)) s (omega (arith, size f))
+      grown 0 (w * n) (concat_map words (changed_at i f ts)) s (omega (arith, size f))
       ∙ ap (λ (m : ℕ). concat_map words (changed_at i f ts) ++ drop m s) (size f)
       ∙ ap (λ (r : List Tree). concat_map words r ++ drop (w * n) s) (changed-parts i f ts d (omega arith))
       ∙ parts (f (get_or ts i d));

@@ -1,12 +1,13 @@
--- What keep_tree_rows and put_run ask for holds of a table that is not refused 1 or 2, and of one that is laid over it.
+-- What keep_rows and put_run ask for holds of a table that is not refused 1 or 2, and of one that is laid over it.
 use Prim.Native.Nat.{ℕ, zero, suc, ◌+◌, ◌*◌, ◌≤◌, ◌<◌}
-use mathlib.Core.Path.{◌≡◌, refl, sym, ap, ap₂, ◌∙◌}
+use mathlib.Core.Path.{◌≡◌, refl, sym, ap, ◌∙◌}
 use mathlib.Core.List.{List, [], ◌∷◌, ◌++◌, map}
 use mathlib.Core.Bool.{Bool, true, false, cond}
 use native.Mathlib.Omega.{arith}
 use lib.ListN.{length, get_or, take, drop, length-append, length-map, take-append-drop}
 use Rattle.rules.specs.Lists.{keep, concat_map}
-use Rattle.rules.specs.Tables.{Run, Tree}
+use Rattle.rules.specs.declared.tables.Run.{Run}
+use Rattle.rules.specs.Tables.{Tree}
 use Rattle.rules.specs.Lent.{LentTrees, trees_of, lay_trees, l0_used, runs_used, l0_of, runs_of, tree_words, watermark_mark_words, watermark_words, l0_words}
 use Rattle.rules.specs.Bounds.{max_l0, max_runs}
 use Rattle.rules.proofs.Rows.{length-words}
@@ -15,50 +16,40 @@ use Rattle.rules.proofs.Packed.{length-trees_of}
 use Rattle.rules.proofs.ReadBack.{trees-back}
 use Rattle.rules.proofs.Bounds.{TreesWithin, TreesLent}
 use Rattle.tree_rows.specs.Change.{changed_at, put_run}
-use Rattle.tree_rows.specs.Slices.{RowsOf, RunsOf, KeepRoom, PutRoom, rows_before, runs_before}
+use Rattle.tree_rows.specs.Slices.{KeepRoom, PutRoom, runs_before}
 use Rattle.tree_rows.proofs.Changes.{length-changed}
 use Rattle.tree_rows.proofs.Standing.{runs-before, runs_of_lem}
 use Rattle.tree_rows.proofs.Again.{laid-l0-used, laid-runs-used}
 
 module _ (t : LentTrees) (within : TreesWithin t) (lent : TreesLent t) where
-  -- for keep_tree_rows: a flag for each row in use
-  pub keep-room : {count : ℕ} {trees l0_ids l0_sizes run_ids run_sizes : List ℕ} → t.count ≡ count → RowsOf t trees l0_ids l0_sizes run_ids run_sizes → {i : ℕ} → i < count → {l0_kept runs_kept : List ℕ} → l0_used t ≤ length l0_kept → runs_used t ≤ length runs_kept
-      → KeepRoom count trees l0_ids l0_sizes run_ids run_sizes i l0_kept runs_kept
-  unfolding l0_used runs_used
-  keep-room {count} {trees} e R h rows runs =
-      let l0 : rows_before trees count ≡ l0_used t = ap₂ rows_before R.trees (sym e) in
-      let all : runs_before trees count ≡ runs_used t = ap₂ runs_before R.trees (sym e) in
-      record {
-        few = omega (arith, within.trees);
-        tree = h;
-        trees = ap length R.trees ∙ lent.trees;
-        l0_ids = ap length R.l0_ids ∙ lent.l0_ids;
-        l0_sizes = ap length R.l0_sizes ∙ lent.l0_sizes;
-        run_ids = ap length R.run_ids ∙ lent.run_ids;
-        run_sizes = ap length R.run_sizes ∙ lent.run_sizes;
-        l0 = rw l0 within.l0;
-        runs = rw all within.runs;
-        l0_flags = rw l0 rows;
-        run_flags = rw all runs;
-      }
+  -- for keep_rows: a flag for each row in use
+  pub keep-room : {i : ℕ} → i < t.count → {l0_kept runs_kept : List ℕ} → l0_used t ≤ length l0_kept → runs_used t ≤ length runs_kept → KeepRoom t i l0_kept runs_kept
+  keep-room h rows runs = record {
+    few = within.trees;
+    tree = h;
+    trees = lent.trees;
+    l0_ids = lent.l0_ids;
+    l0_sizes = lent.l0_sizes;
+    run_ids = lent.run_ids;
+    run_sizes = lent.run_sizes;
+    l0 = within.l0;
+    runs = within.runs;
+    l0_flags = rows;
+    run_flags = runs;
+  }
 
   -- for put_run: room for one run more, and a place after k runs of tree i
-  pub put-room : {count : ℕ} {trees run_ids run_sizes : List ℕ} → t.count ≡ count → RunsOf t trees run_ids run_sizes → {i at : ℕ} → i < count → (d : Tree) (k : ℕ) → at ≡ runs_before trees i + k → k ≤ length (get_or (trees_of t) i d).runs → runs_used t + 1 ≤ max_runs
-      → PutRoom count trees run_ids run_sizes i at
-  unfolding runs_used
-  put-room {count} {trees} e R {i} h d k place low one =
-      let all : runs_before trees count ≡ runs_used t = ap₂ runs_before R.trees (sym e) in
-      let many : length (get_or (trees_of t) i d).runs ≡ get_or trees (3 * i + 2) 0 = runs_of_lem t i d (omega arith) ∙ ap (λ (s : List ℕ). get_or s (3 * i + 2) 0) (sym R.trees) in
-      record {
-        few = omega (arith, within.trees);
-        tree = h;
-        trees = ap length R.trees ∙ lent.trees;
-        run_ids = ap length R.run_ids ∙ lent.run_ids;
-        run_sizes = ap length R.run_sizes ∙ lent.run_sizes;
-        runs = rw all one;
-        first = omega arith;
-        last = omega (arith, many);
-      }
+  pub put-room : {i at : ℕ} → i < t.count → (d : Tree) (k : ℕ) → at ≡ runs_before t.trees i + k → k ≤ length (get_or (trees_of t) i d).runs → runs_used t + 1 ≤ max_runs → PutRoom t i at
+  put-room {i} h d k place low one = record {
+    few = within.trees;
+    tree = h;
+    trees = lent.trees;
+    run_ids = lent.run_ids;
+    run_sizes = lent.run_sizes;
+    runs = one;
+    first = omega arith;
+    last = omega (arith, runs_of_lem t i d h);
+  }
 
   -- ---- a table that is laid over it, of as many trees and of rows within the bounds
 

@@ -8,7 +8,8 @@ use native.Mathlib.Omega.{arith}
 use lib.ListN.{length, get_or, take, drop, length-append}
 use lib.Seq.{drop-drop, take-add}
 use Rattle.rules.specs.Lists.{concat_map, total}
-use Rattle.rules.specs.Tables.{L0Row, Run, Tree}
+use Rattle.rules.specs.declared.tables.Run.{Run}
+use Rattle.rules.specs.Tables.{L0Row, Tree}
 use Rattle.rules.specs.Lent.{LentTrees, rows_from, l0_at, run_at, tree_at, trees_from, trees_of, l0_count, run_count, l0_used, runs_used, tree_words, watermark_mark_words, watermark_words, l0_words, l0_of, runs_of}
 use Rattle.rules.proofs.Rows.{length-rows_from, part-is, map-rows_from, words-of-rows}
 use Rattle.rules.proofs.Packed.{l0-first, runs-first, tree_is}

@@ -1,24 +1,22 @@
 -- The slices that a change of one tree leaves as they were, and the whole table after each of the three functions.
 use Prim.Native.Nat.{ℕ, ◌*◌, ◌≤◌}
-use mathlib.Core.Path.{◌≡◌, sym, ap, ◌∙◌}
+use mathlib.Core.Path.{◌≡◌, refl, sym, ap, ◌∙◌}
 use mathlib.Core.List.{List, [], ◌∷◌, ◌++◌, map}
 use native.Mathlib.Omega.{arith}
 use lib.ListN.{length}
 use Rattle.rules.specs.Lists.{concat_map}
-use Rattle.rules.specs.Tables.{L0Row, Run, Watermark, Tree}
-use Rattle.rules.specs.Lent.{LentTrees, lent_trees, trees_of, lay_trees, laid, l0_used, runs_used, ulid_words, tree_words, watermark_mark_words, watermark_words, l0_words}
+use Rattle.rules.specs.declared.tables.Run.{Run}
+use Rattle.rules.specs.declared.tables.Watermark.{Watermark}
+use Rattle.rules.specs.Tables.{L0Row, Tree}
+use Rattle.rules.specs.Lent.{LentTrees, trees_of, lay_trees, laid, l0_used, runs_used, ulid_words, tree_words, watermark_mark_words, watermark_words, l0_words}
 use Rattle.rules.proofs.Laid.{laid_same}
 use Rattle.rules.proofs.Packed.{length-trees_of}
 use Rattle.rules.proofs.Bounds.{TreesWithin, TreesLent}
 use Rattle.tree_rows.specs.Change.{changed_at}
-use Rattle.tree_rows.specs.Slices.{RowsOf, RunsOf, MarksOf}
+use Rattle.tree_rows.specs.Table.{with_rows, with_runs, with_watermarks}
 use Rattle.tree_rows.proofs.Changes.{changed-keeps, length-changed}
 use Rattle.tree_rows.proofs.Standing.{trees-stand, marks-stand, watermarks-stand, l0-ids-stand, l0-sizes-stand, run-ids-stand, run-sizes-stand}
 use Rattle.tree_rows.proofs.Again.{lent-eq}
-
--- the slices that put_run is lent are among those that keep_tree_rows leaves
-pub runs-among : {t : LentTrees} {trees l0_ids l0_sizes run_ids run_sizes : List ℕ} → RowsOf t trees l0_ids l0_sizes run_ids run_sizes → RunsOf t trees run_ids run_sizes
-runs-among R = record { trees = R.trees; run_ids = R.run_ids; run_sizes = R.run_sizes }
 
 module _ (t : LentTrees) (within : TreesWithin t) (lent : TreesLent t) (i : ℕ) (f : Tree → Tree) where
   abbrev after : LentTrees
@@ -83,30 +81,23 @@ module _ (t : LentTrees) (within : TreesWithin t) (lent : TreesLent t) (i : ℕ)
         ap (λ (r : List ℕ). laid (runs_used t) r t.run_sizes) (ap (map (λ (v : Run). v.size)) (changed-keeps (λ (x : Tree). x.runs) f h i (trees_of t)) ∙ sym (run-sizes-stand t room))
         ∙ laid_same (runs_used t) t.run_sizes room
 
-  -- the slices of watermarks are those of the changed table
-  pub same-marks : ((x : Tree) → (f x).watermark ≡ x.watermark) → MarksOf after t.watermark_marks t.watermarks
-  same-marks h = record { watermark_marks = sym (marks_stay h); watermarks = sym (watermarks-stay h) }
+  -- ---- the whole table is the changed one, where the change leaves alone what is not taken from it
 
-  -- ---- the whole table: the slices that a function leaves, and the others as they were
-
-  -- after keep_tree_rows
-  pub whole-rows : {trees l0_ids l0_sizes run_ids run_sizes : List ℕ} → ((x : Tree) → (f x).watermark ≡ x.watermark) → RowsOf after trees l0_ids l0_sizes run_ids run_sizes
-      → lent_trees t.count trees t.watermark_marks t.watermarks l0_ids l0_sizes run_ids run_sizes ≡ after
-  whole-rows h R = lent-eq (sym count-stays) R.trees (sym (marks_stay h)) (sym (watermarks-stay h)) R.l0_ids R.l0_sizes R.run_ids R.run_sizes
+  -- after keep_rows
+  pub whole-rows : ((x : Tree) → (f x).watermark ≡ x.watermark) → with_rows t after ≡ after
+  whole-rows h = lent-eq (sym count-stays) refl (sym (marks_stay h)) (sym (watermarks-stay h)) refl refl refl refl
 
   -- after put_run
-  pub whole-runs : {trees run_ids run_sizes : List ℕ} → ((x : Tree) → (f x).watermark ≡ x.watermark) → ((x : Tree) → (f x).l0 ≡ x.l0) → RunsOf after trees run_ids run_sizes
-      → lent_trees t.count trees t.watermark_marks t.watermarks t.l0_ids t.l0_sizes run_ids run_sizes ≡ after
-  whole-runs h g R = lent-eq (sym count-stays) R.trees (sym (marks_stay h)) (sym (watermarks-stay h)) (sym (l0-ids-stay g)) (sym (l0-sizes-stay g)) R.run_ids R.run_sizes
+  pub whole-runs : ((x : Tree) → (f x).watermark ≡ x.watermark) → ((x : Tree) → (f x).l0 ≡ x.l0) → with_runs t after ≡ after
+  whole-runs h g = lent-eq (sym count-stays) refl (sym (marks_stay h)) (sym (watermarks-stay h)) (sym (l0-ids-stay g)) (sym (l0-sizes-stay g)) refl refl
 
   -- after set_watermark
-  pub whole-marks : {marks watermarks : List ℕ} → ((x : Tree) → (f x).prefix ≡ x.prefix) → ((x : Tree) → (f x).l0 ≡ x.l0) → ((x : Tree) → (f x).runs ≡ x.runs) → MarksOf after marks watermarks
-      → lent_trees t.count t.trees marks watermarks t.l0_ids t.l0_sizes t.run_ids t.run_sizes ≡ after
-  whole-marks p g h M =
+  pub whole-watermarks : ((x : Tree) → (f x).prefix ≡ x.prefix) → ((x : Tree) → (f x).l0 ≡ x.l0) → ((x : Tree) → (f x).runs ≡ x.runs) → with_watermarks t after ≡ after
+  whole-watermarks p g h =
       lent-eq (sym count-stays)
       (sym (trees-stay (λ x. λ j. p x j ∷ length (g x j) ∷ length (h x j) ∷ [])))
-      M.watermark_marks
-      M.watermarks
+      refl
+      refl
       (sym (l0-ids-stay g))
       (sym (l0-sizes-stay g))
       (sym (run-ids-stay h))

@@ -1,7 +1,9 @@
 -- What finish and drain do to one tree of a table, step by step, and the flags that say which of its rows stay.
 use Rattle.std.specs.Prelude.{ℕ, zero, suc, ◌≡◌, List, [], ◌∷◌, ◌++◌, map, Bool, true, take, drop}
 use Rattle.rules.specs.Lists.{keep, concat_map}
-use Rattle.rules.specs.Tables.{Watermark, L0Row, Run, Tree}
+use Rattle.rules.specs.declared.tables.Watermark.{Watermark}
+use Rattle.rules.specs.declared.tables.Run.{Run}
+use Rattle.rules.specs.Tables.{L0Row, Tree}
 use Rattle.rules.specs.Lent.{LentTrees, trees_of, l0_used, runs_used}
 use Rattle.rows.specs.Movers.{marked}
 

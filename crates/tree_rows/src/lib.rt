@@ -3,4 +3,5 @@
 
 pub mod keep;
 pub mod put;
+pub mod table;
 pub mod watermark;

@@ -1,28 +1,26 @@
 // A run put into one tree.
 ghost use Rattle.std.specs.Prelude.{◌≡◌, ◌-◌};
-ghost use Rattle.rules.specs.Lent.{LentTrees, trees_of, lay_trees};
+ghost use Rattle.rules.specs.declared.tables.Run.{Run};
+ghost use Rattle.rules.specs.Lent.{trees_of, lay_trees};
 ghost use Rattle.tree_rows.specs.Change.{changed_at, put_run};
-ghost use Rattle.tree_rows.specs.Slices.{RunsOf, PutRoom, runs_before};
+ghost use Rattle.tree_rows.specs.Slices.{PutRoom, runs_before};
+ghost use Rattle.tree_rows.specs.Table.{table_in, SameSlices, with_runs};
 
-use rows::bounds::column_sum;
-use rows::{r32, r64};
+use crate::table::TreeTable;
+use rows::movers;
+use rules::tables::Run;
 
-// Puts a run before run `at`, which is a run of tree i or the place behind its last, counted over the runs of all trees.
-pub fn put_run(
-    tree_count: usize,
-    trees: &mut [u32],
-    run_ids: &mut [u32],
-    run_sizes: &mut [u64],
-    i: usize,
-    at: usize,
-    id: u32,
-    size: u64,
-)
-    requires { PutRoom tree_count trees.old run_ids.old run_sizes.old i at }
-    ensures { (t : LentTrees) → t.count ≡ tree_count → RunsOf t trees.old run_ids.old run_sizes.old → RunsOf (lay_trees t (changed_at i (put_run (at - runs_before trees.old i) (record { id = id; size = size })) (trees_of t))) trees.new run_ids.new run_sizes.new }
-{
-    let runs_used = column_sum(trees, 2, tree_count);
-    r32::open_rows(run_ids, 1, runs_used, at, &[id], 1);
-    r64::open_rows(run_sizes, 1, runs_used, at, &[size], 1);
-    trees[3 * i + 2] += 1;
+impl TreeTable<'_> {
+    // Puts a run before run `at`, which is a run of tree i or the place behind its last, counted over the runs of all trees.
+    pub fn put_run(&mut self, i: usize, at: usize, run: Run)
+        requires { PutRoom (table_in self.old) i at }
+        ensures same { SameSlices self.old self.new }
+        ensures put { table_in self.new ≡ with_runs (table_in self.old) (lay_trees (table_in self.old) (changed_at i (put_run (at - runs_before self.old.rows.now i) run) (trees_of (table_in self.old)))) }
+    {
+        let lent = self.rows();
+        let runs_used = lent.runs_used();
+        movers::open_rows(self.run_ids, 1, runs_used, at, &[run.id], 1);
+        movers::open_rows(self.run_sizes, 1, runs_used, at, &[run.size], 1);
+        self.rows[3 * i + 2] += 1;
+    }
 }

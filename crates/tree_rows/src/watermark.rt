@@ -1,28 +1,26 @@
 // The watermark of one tree.
-ghost use Rattle.std.specs.Prelude.{◌≡◌, ◌*◌, ◌<◌, ◌≤◌, length};
-ghost use Rattle.rules.specs.Lent.{LentTrees, trees_of, lay_trees};
+ghost use Rattle.std.specs.Prelude.{◌≡◌, ◌<◌, ◌≤◌, length};
+ghost use Rattle.rules.specs.declared.tables.Watermark.{Watermark};
+ghost use Rattle.rules.specs.Lent.{trees_of, lay_trees};
 ghost use Rattle.tree_rows.specs.Change.{changed_at, put_watermark};
-ghost use Rattle.tree_rows.specs.Slices.{MarksOf};
+ghost use Rattle.tree_rows.specs.Table.{table_in, SameSlices, with_watermarks};
 
-// Sets the watermark of tree i: "view id and SST id, each absent or present".
-pub fn set_watermark(
-    watermark_marks: &mut [u8],
-    watermarks: &mut [u64],
-    i: usize,
-    view_mark: u8,
-    sst_mark: u8,
-    view_high: u64,
-    view_low: u64,
-    sst_high: u64,
-    sst_low: u64,
-)
-    requires { (i < 32) × (length watermark_marks.old ≡ 64) × (length watermarks.old ≡ 128) }
-    ensures { (t : LentTrees) → i < t.count → t.count ≤ 32 → MarksOf t watermark_marks.old watermarks.old → MarksOf (lay_trees t (changed_at i (put_watermark (record { view_mark = view_mark; sst_mark = sst_mark; view = record { high = view_high; low = view_low }; sst = record { high = sst_high; low = sst_low } })) (trees_of t))) watermark_marks.new watermarks.new }
-{
-    watermark_marks[2 * i] = view_mark;
-    watermark_marks[2 * i + 1] = sst_mark;
-    watermarks[4 * i] = view_high;
-    watermarks[4 * i + 1] = view_low;
-    watermarks[4 * i + 2] = sst_high;
-    watermarks[4 * i + 3] = sst_low;
+use crate::table::TreeTable;
+use rules::tables::Watermark;
+
+impl TreeTable<'_> {
+    // Sets the watermark of tree i: "view id and SST id, each absent or present".
+    pub fn set_watermark(&mut self, i: usize, watermark: Watermark)
+        requires { (i < 32) × (length self.old.watermark_marks.now ≡ 64) × (length self.old.watermarks.now ≡ 128) }
+        ensures same { SameSlices self.old self.new }
+        ensures others { table_in self.new ≡ with_watermarks (table_in self.old) (table_in self.new) }
+        ensures set { i < self.old.count → self.old.count ≤ 32 → table_in self.new ≡ with_watermarks (table_in self.old) (lay_trees (table_in self.old) (changed_at i (put_watermark watermark) (trees_of (table_in self.old)))) }
+    {
+        self.watermark_marks[2 * i] = watermark.view_mark;
+        self.watermark_marks[2 * i + 1] = watermark.sst_mark;
+        self.watermarks[4 * i] = watermark.view.high;
+        self.watermarks[4 * i + 1] = watermark.view.low;
+        self.watermarks[4 * i + 2] = watermark.sst.high;
+        self.watermarks[4 * i + 3] = watermark.sst.low;
+    }
 }

@@ -6,7 +6,6 @@ use Rattle.rules.specs.Limit.{limit_of}
 use Rattle.source_chain.specs.declared.Source.{Source}
 use Rattle.source_chain.proofs.Chains.{at-end, over-at, next}
 use Rattle.source_chain.proofs.build_compactable_run.Goals as goal
-use Rattle.source_chain.proofs.build_compactable_run.Goals.{else-loop-i-test, then-loop-i-test+then-r}
 
 abbrev size_of : Source → ℕ
 size_of x = x.size
@@ -20,15 +19,13 @@ size_at ys i = get_or-map size_of ys i (record { id = 0; size = 0 })
 pub loop-i-preserved : goal.loop-i-preserved
 loop-i-preserved c =
     next (limit_of c.args.threshold) (map size_of c.args.sources.now) c.args.from c.loop-i.i c.loop-i.least c.loop-i.invariant
-    (omega (arith, sized c.args.sources.now)) _ (size_at c.args.sources.now c.loop-i.i) _ (sym c.step-r.ensures.0 ∙ c.if-r.false) c.step-r.ensures.1
+    (omega (arith, sized c.args.sources.now)) _ (size_at c.args.sources.now c.loop-i.i) _ (sym c.step.ensures ∙ c.in-Continue.is)
+
+pub returns-in-Break : goal.returns-in-Break
+returns-in-Break c =
+    over-at (limit_of c.args.threshold) (map size_of c.args.sources.now) c.args.from c.loop-i.i c.loop-i.least c.loop-i.invariant
+    (omega (arith, sized c.args.sources.now)) _ (size_at c.args.sources.now c.loop-i.i) _ (sym c.step.ensures ∙ c.in-Break.is)
 
 pub returns : goal.returns
 returns c =
-    let f = limit_of c.args.threshold in
-    let s = map size_of c.args.sources.now in
-    elim c.loop-i-test.branch [
-      | else-loop-i-test w ↦ at-end f s c.args.from c.loop-i.i c.loop-i.least c.loop-i.invariant (omega (arith, sized c.args.sources.now))
-      | then-loop-i-test+then-r w ↦
-          over-at f s c.args.from c.loop-i.i c.loop-i.least c.loop-i.invariant
-          (omega (arith, sized c.args.sources.now)) _ (size_at c.args.sources.now c.loop-i.i) (sym w.step-r.ensures.0 ∙ w.if-r.true)
-    ]
+    omega (arith, at-end (limit_of c.args.threshold) (map size_of c.args.sources.now) c.args.from c.loop-i.i c.loop-i.least c.loop-i.invariant (omega (arith, sized c.args.sources.now)), c.loop-i.auto.i-end, c.loop-i-test.false)

@@ -2,11 +2,11 @@
 use Rattle.compactor_state.proofs.AddCall.{status-bad, drain-bad, sources-tell}
 use Rattle.compactor_state.proofs.add.job_good.Goals as goal
 
-pub returns-then-status-gt5 : goal.returns-then-status-gt5
-returns-then-status-gt5 c = λ high low prefix destination. status-bad _ c.if-status-gt5.true
+pub returns-then-job : goal.returns-then-job
+returns-then-job c = status-bad _ c.if-job.true
 
-pub returns-then-drain-gt1 : goal.returns-then-drain-gt1
-returns-then-drain-gt1 c = λ high low prefix destination. drain-bad _ c.if-status-gt5.false c.if-drain-gt1.true
+pub returns-then-job-2 : goal.returns-then-job-2
+returns-then-job-2 c = drain-bad _ c.if-job.false c.if-job-2.true
 
 pub returns : goal.returns
-returns c = λ high low prefix destination. sources-tell _ c.if-status-gt5.false c.if-drain-gt1.false c.sources_good.ensures
+returns c = sources-tell _ c.if-job.false c.if-job-2.false c.are_good.ensures

@@ -1,16 +1,12 @@
 -- `mark_others` meets its contract: the invariant is that the first i flags say whether the ids are other ones
 -- (`Flagged`).
-use mathlib.Core.Path.{refl, ap}
-use mathlib.Core.Bool.{not}
-use Rattle.merging.proofs.Flagged.{flags-start, flags-next}
-use Rattle.compactor_state.proofs.AddCall.{others-flags}
+use borrow.Author.Rules.{rules}
+use Rattle.merging.proofs.Flagged.{flags-next, flags-all}
+use Rattle.compactor_state.proofs.AddCall.{other-row}
 use Rattle.compactor_state.proofs.add.mark_others.Goals as goal
 
-pub loop-i-init : goal.loop-i-init
-loop-i-init c = flags-start refl
-
 pub loop-i-preserved : goal.loop-i-preserved
-loop-i-preserved c = flags-next c.loop-i.invariant c.loop-i-test.true c.requires.0 (ap not c.same_ulid-same.ensures)
+loop-i-preserved c = flags-next c.loop-i.invariant c.loop-i-test.true c.requires.0 (other-row _ c.loop-i.i c.args.id c.loop-i-test.true c.ulid.ensures (search rules))
 
 pub returns : goal.returns
-returns c = λ j n e. others-flags (record { high = c.args.id_high; low = c.args.id_low }) j c.loop-i.invariant c.loop-i-test.false n e
+returns c = flags-all _ _ c.loop-i.invariant c.loop-i-test.false

@@ -1,14 +1,11 @@
-use Prim.Native.Nat.{◌-◌, ◌*◌}
 use mathlib.Core.Path.{◌≡◌}
-use mathlib.Core.Bool.{not}
-use Rattle.rules.specs.Tables.{same_ulid}
-use Rattle.rules.specs.Lent.{ulid_at}
+use lib.ListN.{get_or}
+use Rattle.rules.specs.Tables.{Job}
+use Rattle.rules.specs.Lent.{jobs_of}
+use Rattle.rows.specs.InSlices.{jobs_in}
 use Rattle.merging.proofs.Flagged.{Flagged}
+use Rattle.compactor_state.proofs.AddCall.{others}
 use Rattle.compactor_state.proofs.add.mark_others.Given as goal
 
 abbrev pub invariant-loop-i : goal.invariant-loop-i
-invariant-loop-i l =
-    Flagged (λ k b. b ≡ not (same_ulid (ulid_at l.job_ids (2 * k)) (record { high = l.id_high; low = l.id_low }))) l.job_count l.i l.flags
-
-abbrev pub decreases-loop-i : goal.decreases-loop-i
-decreases-loop-i l = l.job_count - l.i
+invariant-loop-i l = Flagged (λ k b. (d : Job) → b ≡ others l.id (get_or (jobs_of (jobs_in l.jobs)) k d)) l.jobs.count l.i l.flags

@@ -1,11 +1,10 @@
 -- `run_goes` meets its contract: a run goes as a source, or as the destination of a tiered job.
 use mathlib.Core.Path.{sym, ◌∙◌}
-use native.Mathlib.Omega.{arith}
 use Rattle.finishing.proofs.Finding.{goes-source, goes-tiered}
 use Rattle.finishing.proofs.flagging.run_goes.Goals as goal
 
 pub returns-then-is_source : goal.returns-then-is_source
-returns-then-is_source c = goes-source c.args.run c.args.drain c.args.destination _ (sym c.is_source.ensures ∙ c.if-is_source.true)
+returns-then-is_source c = goes-source c.args.run _ c.args.destination (sym c.is_source.ensures ∙ c.if-is_source.true)
 
-pub returns : goal.returns
-returns c = goes-tiered c.args.run c.args.drain c.args.destination _ (sym c.is_source.ensures ∙ c.if-is_source.false) (λ e. omega arith)
+pub returns-in-Some : goal.returns-in-Some
+returns-in-Some c = rw c.in-Some.is (goes-tiered c.args.run _ c.in-Some.destination (sym c.is_source.ensures ∙ c.if-is_source.false))

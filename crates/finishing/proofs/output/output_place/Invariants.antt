@@ -1,5 +1,5 @@
 use mathlib.Core.Bool.{not}
-use Prim.Native.Nat.{◌+◌, ◌-◌}
+use Prim.Native.Nat.{◌+◌}
 use lib.Dec.{leb}
 use lib.ListN.{get_or}
 use Rattle.rules.specs.Lists.{leading}
@@ -10,6 +10,3 @@ use Rattle.finishing.proofs.output.output_place.Given as goal
 abbrev pub invariant-loop-i : goal.invariant-loop-i
 invariant-loop-i l =
     Sought (λ x. leb x l.output) (λ k. get_or l.run_ids k 0) (l.first + l.runs) l.first l.i (leading (λ x. not (leb x l.output)) (rows_from (λ k. get_or l.run_ids k 0) l.first l.runs))
-
-abbrev pub decreases-loop-i : goal.decreases-loop-i
-decreases-loop-i l = l.first + l.runs - l.i

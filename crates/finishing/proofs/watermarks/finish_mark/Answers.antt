@@ -1,13 +1,11 @@
 -- `finish_mark` meets its contract: the first source decides, and where it is a view the row that is found.
-use mathlib.Core.Path.{sym, ◌∙◌}
-use Rattle.finishing.proofs.Marks.{mark-stays, mark-there, mark-absent}
+use native.Mathlib.Omega.{arith}
+use Rattle.rows.specs.InSlices.{trees_in}
+use Rattle.finishing.proofs.Marks.{mark-there, mark-absent}
 use Rattle.finishing.proofs.watermarks.finish_mark.Goals as goal
 
-pub returns-then-source_marks-from-eq1 : goal.returns-then-source_marks-from-eq1
-returns-then-source_marks-from-eq1 c = λ t x runs n a b l w o. c.old_mark.ensures t a b ∙ sym (mark-stays c.args.source_marks.now runs c.args.source_views.now c.args.from n x c.if-source_marks-from-eq1.true ∙ w)
+pub returns-in-Some : goal.returns-in-Some
+returns-in-Some c = λ x others w l. rw (c.in-SstView.is, c.ulid.ensures) (mark-there _ others x (trees_in c.args.trees.now) c.args.part.first_row c.args.part.rows c.in-Some.k l c.in-Some.ensures.found (omega (arith, c.in-Some.ensures.within)))
 
-pub returns-then-k-rows : goal.returns-then-k-rows
-returns-then-k-rows c = λ t x runs n a b l w o. rw l at (mark-there c.args.source_marks.now runs c.args.source_views.now c.args.from n x c.if-source_marks-from-eq1.false t c.args.first c.args.rows c.find_view-k.result o (rw l c.find_view-k.ensures) c.if-k-rows.true)
-
-pub returns : goal.returns
-returns c = λ t x runs n a b l w o. mark-absent c.args.source_marks.now runs c.args.source_views.now c.args.from n x c.if-source_marks-from-eq1.false t c.args.first c.args.rows c.find_view-k.result o (rw l c.find_view-k.ensures) c.if-k-rows.false
+pub returns-in-None : goal.returns-in-None
+returns-in-None c = λ x others w l. rw c.in-SstView.is (mark-absent _ others x (trees_in c.args.trees.now) c.args.part.first_row c.args.part.rows _ l c.in-None.ensures.found (omega arith))

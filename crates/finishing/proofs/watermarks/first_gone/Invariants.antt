@@ -1,5 +1,5 @@
 use mathlib.Core.Bool.{not}
-use Prim.Native.Nat.{◌+◌, ◌-◌}
+use Prim.Native.Nat.{◌+◌}
 use lib.Dec.{eqb}
 use lib.ListN.{get_or}
 use Rattle.rules.specs.Lists.{leading}
@@ -10,6 +10,3 @@ use Rattle.finishing.proofs.watermarks.first_gone.Given as goal
 abbrev pub invariant-loop-i : goal.invariant-loop-i
 invariant-loop-i l =
     Sought (λ x. eqb x 0) (λ k. get_or l.kept k 0) (l.first + l.rows) l.first l.i (leading (λ x. not (eqb x 0)) (rows_from (λ k. get_or l.kept k 0) l.first l.rows))
-
-abbrev pub decreases-loop-i : goal.decreases-loop-i
-decreases-loop-i l = l.first + l.rows - l.i

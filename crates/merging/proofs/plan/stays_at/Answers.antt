@@ -1,10 +1,11 @@
 -- `stays_at` meets its contract: ids are distinct, so the remote job that is found is the one that could replace it (`stays-found`).
-use Rattle.merging.proofs.Flagged.{stays-found, stays-missing}
+use borrow.Author.Rules.{rules}
 use mathlib.Core.Path.{refl}
+use Rattle.merging.proofs.Flagged.{stays-found, stays-missing}
 use Rattle.merging.proofs.plan.stays_at.Goals as goal
 
-pub returns-then-i-remote_count : goal.returns-then-i-remote_count
-returns-then-i-remote_count c = stays-found c.find_job-i.ensures c.if-i-remote_count.true refl
+pub returns-in-Some : goal.returns-in-Some
+returns-in-Some c = stays-found _ _ c.args.k c.requires.good.2 c.ulid.ensures c.in-Some.ensures.found c.requires.taken c.in-Some.ensures.within refl
 
-pub returns : goal.returns
-returns c = stays-missing c.find_job-i.ensures c.if-i-remote_count.false
+pub returns-in-None : goal.returns-in-None
+returns-in-None c = stays-missing _ _ c.args.k c.requires.good.2 c.ulid.ensures c.in-None.ensures.found _ (search rules)

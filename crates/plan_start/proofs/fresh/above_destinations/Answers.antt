@@ -2,6 +2,7 @@
 -- The loop's invariant, `Risen`: the largest so far and those of the jobs that are left give that of all; sources are not looked at (`destinations-bare`). Assumes nothing.
 use mathlib.Core.Path.{sym, ap, ◌∙◌}
 use native.Mathlib.Omega.{arith}
+use Rattle.rows.specs.InSlices.{jobs_in}
 use Rattle.rules.specs.Lists.{one_above}
 use Rattle.plan_start.proofs.Largest.{rise-starts, rise, rise-none, rise-ends}
 use Rattle.plan_start.proofs.JobRows.{destinations-bare}
@@ -16,9 +17,9 @@ loop-i-preserved c =
     let I = c.loop-i.invariant in
     elim c.if-has_active_destination.branch [
       | then-has_active_destination w ↦
-          rise I c.loop-i-test.true (sym c.has_active_destination.ensures ∙ w.if-has_active_destination.true) (omega (arith, w.wide.ensures, w.larger-above.ensures, w.above-is))
+          rise I c.loop-i-test.true (sym c.has_active_destination.ensures ∙ w.if-has_active_destination.true) (omega (arith, w.max-above.ensures, w.above-is))
       | else-has_active_destination w ↦ rise-none I c.loop-i-test.true (sym c.has_active_destination.ensures ∙ w.if-has_active_destination.false) w.above-is
     ]
 
 pub returns : goal.returns
-returns c = λ j n m s. rise-ends c.loop-i.invariant c.loop-i-test.false ∙ ap one_above (sym (destinations-bare j n m s))
+returns c = rise-ends c.loop-i.invariant c.loop-i-test.false ∙ ap one_above (sym (destinations-bare (jobs_in c.args.jobs.now)))

@@ -1,5 +1,4 @@
 use mathlib.Core.Bool.{◌&&◌, not}
-use Prim.Native.Nat.{◌-◌}
 use Rattle.rules.specs.Tables.{active, is_drain}
 use Rattle.plan_start.proofs.Largest.{Risen}
 use Rattle.plan_start.proofs.JobRows.{bare_job}
@@ -7,7 +6,4 @@ use Rattle.plan_start.proofs.fresh.above_destinations.Given as goal
 
 abbrev pub invariant-loop-i : goal.invariant-loop-i
 invariant-loop-i l =
-    Risen (λ x. active x && not (is_drain x)) (λ x. x.destination) (bare_job l.job_marks l.job_specs) l.count l.i l.above
-
-abbrev pub decreases-loop-i : goal.decreases-loop-i
-decreases-loop-i l = l.count - l.i
+    Risen (λ x. active x && not (is_drain x)) (λ x. x.destination) (bare_job l.jobs.marks.now l.jobs.specs.now) l.jobs.count l.i l.above

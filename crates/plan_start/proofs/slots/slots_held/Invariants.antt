@@ -1,12 +1,8 @@
 use mathlib.Core.List.{[]}
-use Prim.Native.Nat.{◌-◌}
 use Rattle.rules.specs.Tables.{holds_slot}
 use Rattle.plan_start.proofs.Counting.{Counted}
 use Rattle.plan_start.proofs.JobRows.{bare_job}
 use Rattle.plan_start.proofs.slots.slots_held.Given as goal
 
 abbrev pub invariant-loop-i : goal.invariant-loop-i
-invariant-loop-i l = Counted holds_slot (bare_job l.job_marks []) l.count l.i l.held
-
-abbrev pub decreases-loop-i : goal.decreases-loop-i
-decreases-loop-i l = l.count - l.i
+invariant-loop-i l = Counted holds_slot (bare_job l.jobs.marks.now []) l.jobs.count l.i l.held

@@ -1,15 +1,11 @@
 -- `column_sum` meets its contract: the invariant is that the sum so far and the sum of the rows left are the sum of all (`Summed`); a row adds less than
 -- 2^32.
 use borrow.Author.Rules.{rules}
-use mathlib.Core.Path.{◌∙◌}
-use Rattle.rows.proofs.Sums.{sum-starts, sum-next, sum-ends}
+use Rattle.rows.proofs.Sums.{sum-next, sum-ends}
 use Rattle.rows.proofs.bounds.column_sum.Goals as goal
 
-pub loop-i-init : goal.loop-i-init
-loop-i-init c = (search rules, search rules, sum-starts _ _)
-
 pub loop-i-preserved : goal.loop-i-preserved
-loop-i-preserved c = (search rules, search rules, sum-next _ _ _ _ _ c.loop-i-test.true (c.wide-sum.ensures ∙ c.number_at.ensures) c.loop-i.invariant.2)
+loop-i-preserved c = (search rules, search rules, sum-next _ _ _ _ _ c.loop-i-test.true c.number_at.ensures c.loop-i.invariant.2)
 
 pub returns : goal.returns
 returns c = sum-ends _ _ _ _ c.loop-i-test.false c.loop-i.invariant.2

@@ -1,4 +1,3 @@
-use Prim.Native.Nat.{◌-◌}
 use Rattle.rules.specs.Lists.{all}
 use Rattle.rules.specs.Lent.{rows_from}
 use Rattle.rows.specs.Shape.{good_marks_at}
@@ -8,6 +7,3 @@ use Rattle.rows.proofs.jobs.job_marks_good.Given as goal
 abbrev pub invariant-loop-i : goal.invariant-loop-i
 invariant-loop-i l =
     Left (all (good_marks_at l.job_marks)) (λ k. k) l.n l.i (all (good_marks_at l.job_marks) (rows_from (λ k. k) 0 l.n))
-
-abbrev pub decreases-loop-i : goal.decreases-loop-i
-decreases-loop-i l = l.n - l.i

@@ -9,6 +9,3 @@ use Rattle.rows.proofs.shape.number_from.Given as goal
 abbrev pub invariant-loop-i : goal.invariant-loop-i
 invariant-loop-i l =
     Left (any (eqb l.x)) (λ k. get_or l.s (l.w * k) 0) l.n l.i (any (eqb l.x) (rows_from (λ k. get_or l.s (l.w * k) 0) l.from (l.n - l.from)))
-
-abbrev pub decreases-loop-i : goal.decreases-loop-i
-decreases-loop-i l = l.n - l.i

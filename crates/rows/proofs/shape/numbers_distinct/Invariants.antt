@@ -1,4 +1,4 @@
-use Prim.Native.Nat.{◌-◌, ◌*◌}
+use Prim.Native.Nat.{◌*◌}
 use lib.Dec.{eqb}
 use lib.ListN.{get_or}
 use Rattle.rules.specs.Lists.{distinct}
@@ -9,6 +9,3 @@ use Rattle.rows.proofs.shape.numbers_distinct.Given as goal
 abbrev pub invariant-loop-i : goal.invariant-loop-i
 invariant-loop-i l =
     Left (distinct eqb) (λ k. get_or l.s (l.w * k) 0) l.n l.i (distinct eqb (rows_from (λ k. get_or l.s (l.w * k) 0) 0 l.n))
-
-abbrev pub decreases-loop-i : goal.decreases-loop-i
-decreases-loop-i l = l.n - l.i

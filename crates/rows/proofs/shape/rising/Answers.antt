@@ -1,24 +1,27 @@
--- `rising` meets its contract: the invariant is that the rows left rise exactly if all do (`Left`); row i is held against the next.
-use mathlib.Core.Path.{sym, ◌∙◌}
+-- `rising` meets its contract: the invariant is that the rows left rise exactly if all do (`Left`); row i is held against the one
+-- before it.
+use mathlib.Core.Path.{sym, ap₂, ◌∙◌}
 use native.Mathlib.Omega.{arith}
-use Rattle.rules.specs.Lists.{linked}
 use Rattle.rules.specs.Tables.{ulid_below}
-use Rattle.rows.proofs.Scans.{scan-starts, scan-ends}
-use Rattle.rows.proofs.Order.{link-last, link_on, link-breaks}
+use Rattle.rules.proofs.Ulids.{lt-below}
+use Rattle.rows.proofs.Scans.{scan-starts}
+use Rattle.rows.proofs.Order.{link-next, link-breaks, link-ends}
 use Rattle.rows.proofs.shape.rising.Goals as goal
 
 pub loop-i-init : goal.loop-i-init
-loop-i-init c = scan-starts
+loop-i-init c = (omega arith, scan-starts)
 
-pub returns-then-i-n : goal.returns-then-i-n
-returns-then-i-n c = link-last ulid_below c.loop-i.invariant c.if-i-n.true
-
-pub returns-then-not-ulid_below : goal.returns-then-not-ulid_below
-returns-then-not-ulid_below c = link-breaks ulid_below c.loop-i.invariant (omega arith) (sym c.ulid_below.ensures ∙ c.if-not-ulid_below.true)
+pub returns-then-not-lt : goal.returns-then-not-lt
+returns-then-not-lt c =
+    link-breaks ulid_below c.loop-i.invariant.1 c.loop-i.invariant.0 c.loop-i-test.true
+    (ap₂ ulid_below (sym c.ulid.ensures) (sym c.ulid-in-loop-i.ensures) ∙ sym (c.lt.ensures ∙ lt-below c.ulid.result c.ulid-in-loop-i.result) ∙ c.if-not-lt.true)
 
 pub loop-i-preserved : goal.loop-i-preserved
-loop-i-preserved c = link_on ulid_below c.loop-i.invariant (omega arith) (sym c.ulid_below.ensures ∙ c.if-not-ulid_below.false)
+loop-i-preserved c = (
+  omega arith,
+  link-next ulid_below c.loop-i.invariant.1 c.loop-i.invariant.0 c.loop-i-test.true
+      (ap₂ ulid_below (sym c.ulid.ensures) (sym c.ulid-in-loop-i.ensures) ∙ sym (c.lt.ensures ∙ lt-below c.ulid.result c.ulid-in-loop-i.result) ∙ c.if-not-lt.false),
+)
 
 pub returns : goal.returns
-unfolding linked
-returns c = scan-ends c.loop-i.invariant c.loop-i-test.false
+returns c = link-ends ulid_below c.loop-i.invariant.1 c.loop-i-test.false

@@ -7,7 +7,4 @@ use Rattle.rows.proofs.shape.view_from.Given as goal
 
 abbrev pub invariant-loop-i : goal.invariant-loop-i
 invariant-loop-i l =
-    Left (any (same_ulid (record { high = l.high; low = l.low }))) (λ k. ulid_at l.l0_ids (4 * k)) l.n l.i (any (same_ulid (record { high = l.high; low = l.low })) (rows_from (λ k. ulid_at l.l0_ids (4 * k)) l.from (l.n - l.from)))
-
-abbrev pub decreases-loop-i : goal.decreases-loop-i
-decreases-loop-i l = l.n - l.i
+    Left (any (same_ulid l.view)) (λ k. ulid_at l.l0_ids (4 * k)) l.n l.i (any (same_ulid l.view) (rows_from (λ k. ulid_at l.l0_ids (4 * k)) l.from (l.n - l.from)))

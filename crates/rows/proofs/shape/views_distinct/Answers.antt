@@ -9,11 +9,11 @@ loop-i-init c = scan-starts
 
 pub returns-then-view_from : goal.returns-then-view_from
 unfolding distinct
-returns-then-view_from c = scan-stops c.loop-i.invariant c.loop-i-test.true (rw (sym c.view_from.ensures ∙ c.if-view_from.true))
+returns-then-view_from c = scan-stops c.loop-i.invariant c.loop-i-test.true (rw (← c.ulid.ensures, sym c.view_from.ensures ∙ c.if-view_from.true))
 
 pub loop-i-preserved : goal.loop-i-preserved
 unfolding distinct
-loop-i-preserved c = scan-next c.loop-i.invariant c.loop-i-test.true (rw (sym c.view_from.ensures ∙ c.if-view_from.false))
+loop-i-preserved c = scan-next c.loop-i.invariant c.loop-i-test.true (rw (← c.ulid.ensures, sym c.view_from.ensures ∙ c.if-view_from.false))
 
 pub returns : goal.returns
 unfolding distinct

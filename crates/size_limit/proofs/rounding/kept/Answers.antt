@@ -5,7 +5,7 @@ use lib.Ieee.Nearest.{closest}
 use Rattle.rules.specs.Limit.{dropped, kept}
 use Rattle.rules.proofs.Nearest.{under, over, tie as even}
 use Rattle.rules.proofs.Rounding.{dropped-le}
-use Rattle.size_limit.proofs.Shifts.{unit, masked, small, room}
+use Rattle.size_limit.proofs.Shifts.{unit, masked, small}
 use Rattle.size_limit.proofs.rounding.kept.Goals as goal
 
 -- s, and how many digits it drops
@@ -39,14 +39,8 @@ overflow_mul-twice c = omega (arith, rest-is c.args.s c.args.e c.requires c.rang
 pub returns-then-twice-unit : goal.returns-then-twice-unit
 returns-then-twice-unit c = under c.args.s (2 ^ c.args.e) (omega (arith, c.if-twice-unit.true, rest-is c.args.s c.args.e c.requires c.ranges.s, unit-is c.args.s c.args.e c.requires c.ranges.s)) ∙ is c.args.s c.args.e c.requires c.ranges.s
 
-pub overflow_add-result : goal.overflow_add-result
-overflow_add-result c = omega (arith, room c.args.s c.args.e (few c.args.s c.args.e c.requires c.ranges.s) (omega (arith, c.if-twice-unit-2.true, rest-is c.args.s c.args.e c.requires c.ranges.s, unit-is c.args.s c.args.e c.requires c.ranges.s)), c.ranges.s)
-
 pub returns-then-twice-unit-2 : goal.returns-then-twice-unit-2
 returns-then-twice-unit-2 c = over c.args.s (2 ^ c.args.e) (omega (arith, c.if-twice-unit-2.true, rest-is c.args.s c.args.e c.requires c.ranges.s, unit-is c.args.s c.args.e c.requires c.ranges.s)) ∙ is c.args.s c.args.e c.requires c.ranges.s
-
-pub overflow_add-result-2 : goal.overflow_add-result-2
-overflow_add-result-2 c = omega (arith, room c.args.s c.args.e (few c.args.s c.args.e c.requires c.ranges.s) (omega (arith, c.if-twice-unit.false, pow_pos c.args.e, rest-is c.args.s c.args.e c.requires c.ranges.s, unit-is c.args.s c.args.e c.requires c.ranges.s)), c.ranges.s)
 
 pub returns : goal.returns
 returns c = even c.args.s (2 ^ c.args.e) (omega (arith, c.if-twice-unit.false, c.if-twice-unit-2.false, rest-is c.args.s c.args.e c.requires c.ranges.s, unit-is c.args.s c.args.e c.requires c.ranges.s)) ∙ is c.args.s c.args.e c.requires c.ranges.s

@@ -1,7 +1,7 @@
 -- `nearest_single` holds since a size below 2 ^ 24 is a single as it stands, and since of any other the sum of field and
 -- kept digits is the pattern of the nearest single.
-use Rattle.std.proofs.Common.{◌≡◌, ℕ, ◌+◌, ◌*◌, ◌%◌, ◌^◌, ◌<◌, ◌≤◌, false, pos, sym, refl, subst, le_of_lt, arith, le→leb}
-use lib.Ieee.{Float, binary32, size, in_float, of_bits, of_int}
+use Rattle.std.proofs.Common.{◌≡◌, ℕ, ◌+◌, ◌*◌, ◌%◌, ◌^◌, ◌<◌, ◌≤◌, false, pos, sym, refl, subst, le_of_lt, arith}
+use lib.Ieee.{Float, binary32, size, of_bits, of_int}
 use lib.Ieee.Exact.{HasValue}
 use Rattle.rules.specs.Limit.{dropped, kept, single_of}
 use Rattle.rules.proofs.Digits.{size-gt}
@@ -25,15 +25,8 @@ module _ (s e q : ℕ) (high : 2 ^ 24 ≤ s) (fits : s < 2 ^ 64) (drops : e ≡ 
   short : q ≤ 2 ^ 24
   short = omega (arith, keeps, kept-le s)
 
-pub int_to_float-result : goal.int_to_float-result
-unfolding in_float
-int_to_float-result c = le→leb c.args.s (2 ^ 24) (le_of_lt c.if-s-lt-TWO_TO_24.true)
-
 pub returns-then-s-lt-TWO_TO_24 : goal.returns-then-s-lt-TWO_TO_24
 returns-then-s-lt-TWO_TO_24 c = rounded-in c.args.s (of_int binary32 (pos c.args.s)) c.ranges.s.fits refl
-
-pub kept-q-requires : goal.kept-q-requires
-kept-q-requires c = c.dropped-e.ensures
 
 pub overflow_add-result : goal.overflow_add-result
 overflow_add-result c = omega (arith, few c.args.s c.dropped-e.result c.kept-q.result c.if-s-lt-TWO_TO_24.false c.ranges.s.fits c.dropped-e.ensures c.kept-q.ensures)

@@ -1,11 +1,6 @@
-use Prim.Native.Nat.{◌-◌}
-use lib.ListN.{length}
 use Rattle.rules.specs.Limit.{limit_of}
 use Rattle.tree_pick.proofs.Chains.{Taken}
 use Rattle.tree_pick.proofs.run.build_compactable_run.Given as goal
 
 abbrev pub invariant-loop-i : goal.invariant-loop-i
 invariant-loop-i l = Taken (limit_of l.o.threshold) l.sizes l.from l.least l.i
-
-abbrev pub decreases-loop-i : goal.decreases-loop-i
-decreases-loop-i l = length l.sizes - l.i

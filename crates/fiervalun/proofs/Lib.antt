@@ -1,0 +1,2 @@
+-- What the proofs of several C calls cite.
+pub mod Promised

@@ -1,7 +1,0 @@
--- `number_at` meets its contract: past the end `get_or` answers its default, 0.
-use mathlib.Core.Path.{sym}
-use lib.ListN.{get_or-eq_default}
-use Rattle.rows.proofs.bounds.number_at.Goals as goal
-
-pub returns : goal.returns
-returns c = sym (get_or-eq_default c.args.s.now 0 c.if-at-s.false)
