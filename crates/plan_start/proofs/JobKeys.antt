@@ -1,5 +1,5 @@
 -- The keys of jobs, one source, then one job after the other.
-use Prim.Native.Nat.{ℕ, suc, ◌+◌, ◌-◌, ◌≤◌, ◌<◌}
+use Prim.Native.Nat.{ℕ, zero, suc, ◌+◌, ◌-◌, ◌*◌, ◌≤◌, ◌<◌}
 use mathlib.Core.Path.{◌≡◌, refl, sym, ap, ap₂, ◌∙◌}
 use mathlib.Core.List.{List, [], ◌∷◌, ◌++◌, map, append-nil, append_assoc, map-append}
 use mathlib.Core.Bool.{Bool, true, false, cond, ◌&&◌, ◌||◌}
@@ -13,7 +13,7 @@ use Rattle.rules.specs.declared.tables.SourceId.{SourceId}
 use Rattle.rules.specs.declared.tables.Source.{Source}
 use Rattle.rules.specs.declared.tables.SourceId.TheVariants.{SortedRun}
 use Rattle.rules.specs.Tables.{Job, among, id_of, active, is_drain, same_id}
-use Rattle.rules.specs.Lent.{LentJobs, rows_from, source_at, job_at, jobs_from, jobs_of, source_count, sources_used}
+use Rattle.rules.specs.Lent.{LentJobs, lent_jobs, rows_from, source_at, job_at, jobs_from, jobs_of, source_count, sources_used}
 use Rattle.rules.specs.Windows.{job_uses, used_ids}
 use Rattle.rules.proofs.Rows.{length-rows_from, rows_from-append}
 use Rattle.rows.proofs.Sums.{Summed, sum-starts, sum-next, sum-ends}
@@ -174,9 +174,27 @@ used-by-jobs (job ∷ js) prefix x =
     go true ks = sym (any_append (λ y. same_id y x) (job_uses job) (concat_map job_uses ks))
     go false ks = refl
 
--- so that the keys of all jobs are the used ids of every tree
-pub used-by : {j : LentJobs} {before now : UsedIds} {i at : ℕ} → KeysSoFar j before i at now → j.count ≤ i → UsedByJobs j now
-used-by {j} s h = record {
-  uses = λ prefix x. ap (λ (ks : List Key). used_in ks prefix x) (keys-end s h) ∙ used-by-jobs (jobs_of j) prefix x;
-  within = count-end s h;
+-- ids of jobs have no part in it
+module _ (count : ℕ) (ids ids' marks specs source_marks source_runs source_views : List ℕ) where
+  keys_from : (i s n : ℕ) → concat_map job_keys (jobs_from (lent_jobs count ids marks specs source_marks source_runs source_views) i s n) ≡ concat_map job_keys (jobs_from (lent_jobs count ids' marks specs source_marks source_runs source_views) i s n)
+  unfolding jobs_from concat_map job_keys
+  keys_from i s zero = refl
+  keys_from i s (suc n) = ap (λ (ks : List Key). job_keys (job_at (lent_jobs count ids marks specs source_marks source_runs source_views) i s) ++ ks) (keys_from (i + 1) (s + get_or specs (3 * i + 2) 0) n)
+
+  keys-same : concat_map job_keys (jobs_of (lent_jobs count ids marks specs source_marks source_runs source_views)) ≡ concat_map job_keys (jobs_of (lent_jobs count ids' marks specs source_marks source_runs source_views))
+  unfolding jobs_of
+  keys-same = keys_from 0 0 count
+
+-- so that the keys of all jobs are the used ids of every tree, whatever their ids
+pub used-by : {count : ℕ} {ids marks specs source_marks source_runs source_views : List ℕ} {before now : UsedIds} {i at : ℕ} (j : LentJobs)
+    → KeysSoFar (lent_jobs count ids marks specs source_marks source_runs source_views) before i at now → count ≤ i
+    → j.count ≡ count → j.job_marks ≡ marks → j.job_specs ≡ specs → j.source_marks ≡ source_marks → j.source_runs ≡ source_runs → j.source_views ≡ source_views
+    → UsedByJobs j now
+unfolding sources_used
+used-by {ids = ids} j s h c m p sm sr sv = record {
+  uses = λ prefix x.
+      ap (λ (ks : List Key). used_in ks prefix x)
+      (keys-end s h ∙ rw (← c, ← m, ← p, ← sm, ← sr, ← sv) (keys-same j.count ids j.job_ids j.job_marks j.job_specs j.source_marks j.source_runs j.source_views))
+      ∙ used-by-jobs (jobs_of j) prefix x;
+  within = rw (c, p) (count-end s h);
 }

@@ -2,9 +2,8 @@
 ghost use Rattle.std.specs.Prelude.{◌≡◌, map, ◌&&◌, not, ◌+◌, ◌*◌, ◌≤◌, ◌<◌, eqb, leb, length, get_or};
 ghost use Rattle.rules.specs.Lists.{keep, one_above};
 ghost use Rattle.rules.specs.Tables.{active, is_drain};
-ghost use Rattle.rules.specs.Lent.{LentTrees, runs_used, trees_of, jobs_of};
+ghost use Rattle.rules.specs.Lent.{LentTrees, LentJobs, runs_used, trees_of, jobs_of};
 ghost use Rattle.rules.specs.Plan.{first_fresh};
-ghost use Rattle.rows.specs.InSlices.{jobs_in};
 
 use rows::jobs::Jobs;
 use rows::trees::Trees;
@@ -34,7 +33,7 @@ fn has_active_destination(jobs: &Jobs, i: usize) -> bool
 // "active destinations", of tiered jobs, one above the largest; "Active sources do not count here."
 fn above_destinations(jobs: &Jobs) -> usize
     requires { (2 * jobs.now.count ≤ length jobs.now.marks.now) × (3 * jobs.now.count ≤ length jobs.now.specs.now) }
-    ensures { result ≡ one_above (map (λ x. x.destination) (keep (λ x. active x && not (is_drain x)) (jobs_of (jobs_in jobs.now)))) }
+    ensures { (j : LentJobs) → j.count ≡ jobs.now.count → j.job_marks ≡ jobs.now.marks.now → j.job_specs ≡ jobs.now.specs.now → result ≡ one_above (map (λ x. x.destination) (keep (λ x. active x && not (is_drain x)) (jobs_of j))) }
 {
     let mut above: usize = 0;
     for i in 0..jobs.count {
@@ -49,7 +48,7 @@ fn above_destinations(jobs: &Jobs) -> usize
 // and stops at 4,294,967,295.": of trees that have `runs` runs in all.
 pub fn first_fresh(trees: &Trees, runs: usize, jobs: &Jobs) -> u32
     requires { (runs ≤ length trees.now.run_ids.now) × (2 * jobs.now.count ≤ length jobs.now.marks.now) × (3 * jobs.now.count ≤ length jobs.now.specs.now) }
-    ensures { (t : LentTrees) → runs_used t ≡ runs → t.run_ids ≡ trees.now.run_ids.now → result ≡ first_fresh (trees_of t) (jobs_of (jobs_in jobs.now)) }
+    ensures { (t : LentTrees) (j : LentJobs) → runs_used t ≡ runs → t.run_ids ≡ trees.now.run_ids.now → j.count ≡ jobs.now.count → j.job_marks ≡ jobs.now.marks.now → j.job_specs ≡ jobs.now.specs.now → result ≡ first_fresh (trees_of t) (jobs_of j) }
 {
     let committed = above_runs(&trees.run_ids[..runs]);
     let fresh = committed.max(above_destinations(jobs));

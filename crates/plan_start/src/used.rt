@@ -1,6 +1,6 @@
 // The ids that jobs use, in the table of used ids: slatedb's ConflictChecker as it is made from the jobs.
 ghost use Rattle.std.specs.Prelude.{◌≡◌, ◌+◌, ◌*◌, ◌<◌, ◌≤◌, length, get_or};
-ghost use Rattle.rules.specs.Lent.{rows_from, source_at, job_at};
+ghost use Rattle.rules.specs.Lent.{LentJobs, rows_from, source_at, job_at};
 ghost use Rattle.rows.specs.InSlices.{jobs_in};
 ghost use Rattle.plan_start.specs.UsedByJobs.{source_keys, job_keys, AddedAll, JobRoom, UsedByJobs};
 
@@ -43,7 +43,7 @@ pub fn fill_used(jobs: &Jobs, used: &mut UsedIds)
     requires { JobRoom jobs.now (length used.old.keys.now) }
     ensures same { used.new.keys.ghost_name ≡ used.old.keys.ghost_name }
     ensures kept { length used.new.keys.now ≡ length used.old.keys.now }
-    ensures uses { UsedByJobs (jobs_in jobs.now) used.new }
+    ensures uses { (j : LentJobs) → j.count ≡ jobs.now.count → j.job_marks ≡ jobs.now.marks.now → j.job_specs ≡ jobs.now.specs.now → j.source_marks ≡ jobs.now.sources.marks.now → j.source_runs ≡ jobs.now.sources.runs.now → j.source_views ≡ jobs.now.sources.views.now → UsedByJobs j used.new }
 {
     used.count = 0;
     let mut at = 0;

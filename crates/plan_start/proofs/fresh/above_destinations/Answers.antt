@@ -1,9 +1,7 @@
 -- `plan_start::fresh::above_destinations` meets its contract.
 -- The loop's invariant, `Risen`: the largest so far and those of the jobs that are left give that of all; sources are not looked at (`destinations-bare`). Assumes nothing.
-use mathlib.Core.Path.{sym, ap, ◌∙◌}
+use mathlib.Core.Path.{sym, ◌∙◌}
 use native.Mathlib.Omega.{arith}
-use Rattle.rows.specs.InSlices.{jobs_in}
-use Rattle.rules.specs.Lists.{one_above}
 use Rattle.plan_start.proofs.Largest.{rise-starts, rise, rise-none, rise-ends}
 use Rattle.plan_start.proofs.JobRows.{destinations-bare}
 use Rattle.plan_start.proofs.fresh.above_destinations.Goals as goal
@@ -22,4 +20,7 @@ loop-i-preserved c =
     ]
 
 pub returns : goal.returns
-returns c = rise-ends c.loop-i.invariant c.loop-i-test.false ∙ ap one_above (sym (destinations-bare (jobs_in c.args.jobs.now)))
+returns c = λ j n m s.
+    let risen = rise-ends c.loop-i.invariant c.loop-i-test.false in
+    let bare = destinations-bare j in
+    cc

@@ -2,9 +2,7 @@ use Rattle.std.proofs.lemmas.Bool.Decides.{nat_tests}
 use Rattle.std.proofs.Common.{arith}
 -- `plan_start::slots::slots_held` meets its contract.
 -- The loop's invariant, `Counted`: the jobs counted and those that are left hold all slots; neither looks at sources (`held-bare`). Assumes nothing.
-use mathlib.Core.Path.{sym, ◌∙◌}
 use Rattle.plan_start.proofs.Counting.{count-starts, count_row, count-ends}
-use Rattle.rows.specs.InSlices.{jobs_in}
 use Rattle.plan_start.proofs.JobRows.{held-bare}
 use Rattle.plan_start.proofs.slots.slots_held.Goals as goal
 
@@ -15,4 +13,7 @@ pub loop-i-preserved : goal.loop-i-preserved
 loop-i-preserved c = count_row c.loop-i.invariant c.loop-i-test.true (grind (arith, nat_tests))
 
 pub returns : goal.returns
-returns c = count-ends c.loop-i.invariant c.loop-i-test.false ∙ sym (held-bare (jobs_in c.args.jobs.now))
+returns c = λ j n m.
+    let counted = count-ends c.loop-i.invariant c.loop-i-test.false in
+    let held = held-bare j in
+    cc

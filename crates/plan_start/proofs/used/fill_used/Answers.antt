@@ -18,4 +18,4 @@ pub loop-i-preserved : goal.loop-i-preserved
 loop-i-preserved c = keys-next c.loop-i.invariant c.loop-i-test.true c.add_job.ensures refl
 
 pub returns-clause-uses : goal.returns-clause-uses
-returns-clause-uses c = used-by c.loop-i.invariant c.loop-i-test.false
+returns-clause-uses c = λ j n m p sm sr sv. used-by j c.loop-i.invariant c.loop-i-test.false n m p sm sr sv

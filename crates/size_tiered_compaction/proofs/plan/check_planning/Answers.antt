@@ -1,5 +1,5 @@
 -- `check_planning` meets its contract: each return is one case of `planning_refusal` (PlanRefused.antt).
-use mathlib.Core.Path.{sym, ap₂, ◌∙◌}
+use mathlib.Core.Path.{sym, ap₂, ◌∙◌, refl}
 use Prim.Native.Nat.{◌+◌}
 use native.Mathlib.Omega.{arith}
 use Rattle.rows.specs.InSlices.{jobs_in}
@@ -16,7 +16,7 @@ pub overflow_add-l0_used : goal.overflow_add-l0_used
 overflow_add-l0_used c = record { fits = omega (arith, c.requires, c.l0_used.ensures, c.runs_used.ensures) }
 
 pub returns-then-too_small : goal.returns-then-too_small
-returns-then-too_small c = places-refused _ _ _ _ (sym c.bad_options.ensures ∙ c.if-bad_options.false) (sym c.sizes_over.ensures ∙ c.if-sizes_over.false) (places-read _ _ (jobs_in c.args.jobs.now) _ c.free_slots-free.ensures (ap₂ ◌+◌ c.l0_used.ensures c.runs_used.ensures) _ c.too_small.ensures ∙ c.if-too_small.true)
+returns-then-too_small c = places-refused _ _ _ _ (sym c.bad_options.ensures ∙ c.if-bad_options.false) (sym c.sizes_over.ensures ∙ c.if-sizes_over.false) (places-read _ _ (jobs_in c.args.jobs.now) _ (c.free_slots-free.ensures _ refl refl) (ap₂ ◌+◌ c.l0_used.ensures c.runs_used.ensures) _ c.too_small.ensures ∙ c.if-too_small.true)
 
 pub returns : goal.returns
-returns c = not-refused _ _ _ _ (sym c.bad_options.ensures ∙ c.if-bad_options.false) (sym c.sizes_over.ensures ∙ c.if-sizes_over.false) (places-read _ _ (jobs_in c.args.jobs.now) _ c.free_slots-free.ensures (ap₂ ◌+◌ c.l0_used.ensures c.runs_used.ensures) _ c.too_small.ensures ∙ c.if-too_small.false)
+returns c = not-refused _ _ _ _ (sym c.bad_options.ensures ∙ c.if-bad_options.false) (sym c.sizes_over.ensures ∙ c.if-sizes_over.false) (places-read _ _ (jobs_in c.args.jobs.now) _ (c.free_slots-free.ensures _ refl refl) (ap₂ ◌+◌ c.l0_used.ensures c.runs_used.ensures) _ c.too_small.ensures ∙ c.if-too_small.false)

@@ -42,22 +42,22 @@ pub plan_passes-requires : goal.plan_passes-requires
 unfolding free_slots
 plan_passes-requires c =
     let g = c.requires.2 in
-    let slots = c.free_slots-slots.ensures in (
+    let slots = c.free_slots-slots.ensures (jobs_in c.args.jobs.now) refl refl in (
       g.bounded,
-      omega (arith, g.concurrent, g.jobs, g.sources, slots, c.fill_used.ensures.kept, c.fill_used.ensures.uses.within),
+      omega (arith, g.concurrent, g.jobs, g.sources, slots, c.fill_used.ensures.kept, (c.fill_used.ensures.uses (jobs_in c.args.jobs.now) refl refl refl refl refl refl).within),
       c.requires.0,
       omega (arith, g.concurrent, slots, c.requires.1),
       record { views = omega (arith, g.l0_ids); rows = omega (arith, g.l0_sizes); ids = omega (arith, g.run_ids); sizes = omega (arith, g.run_sizes); lengths = omega (arith, c.fill_chains.auto.chains) },
-      asked-row g c.order_trees.ensures c.fill_chains.ensures,
+      asked-row g (c.order_trees.ensures _ refl refl) c.fill_chains.ensures,
     )
 
 pub returns : goal.returns
 unfolding free_slots
 returns c =
     let g = c.requires.2 in
-    let slots = c.free_slots-slots.ensures in
+    let slots = c.free_slots-slots.ensures (jobs_in c.args.jobs.now) refl refl in
     let made = c.plan_passes.ensures.made in
     record {
       same = made.picks_same;
-      proposed = picks-made _ (trees_in c.args.trees.now) (jobs_in c.args.jobs.now) _ c.requires.0 c.fill_used.ensures.uses slots (c.first_fresh-fresh.ensures _ (sym c.runs_used.ensures) refl) (omega (arith, g.concurrent, slots, c.requires.1)) (omega (arith, g.trees, c.order_trees.auto.asked)) c.order_trees.ensures made c.plan_passes.ensures.planned;
+      proposed = picks-made _ (trees_in c.args.trees.now) (jobs_in c.args.jobs.now) _ c.requires.0 (c.fill_used.ensures.uses _ refl refl refl refl refl refl) slots (c.first_fresh-fresh.ensures _ _ (sym c.runs_used.ensures) refl refl refl refl) (omega (arith, g.concurrent, slots, c.requires.1)) (omega (arith, g.trees, c.order_trees.auto.asked)) (c.order_trees.ensures _ refl refl) made c.plan_passes.ensures.planned;
     }
