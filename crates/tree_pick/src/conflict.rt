@@ -11,11 +11,18 @@ pub struct Key {
     pub id: SourceId,
 }
 
-// Whether an id of a tree is used: "no source and not the destination is used".
+// Whether an id of a tree is used: "no source and not the destination is used". By key, and not by std's `contains`, which tests
+// many keys at a time and took up to twice as long here (docs/DESIGN-PASS.md).
 pub fn is_used(used: &[Key], prefix: u32, id: SourceId) -> bool
     ensures { result ≡ used_in used.now prefix id }
 {
-    used.contains(&Key { prefix, id })
+    let wanted = Key { prefix, id };
+    for i in 0..used.len() {
+        if used[i] == wanted {
+            return true;
+        }
+    }
+    false
 }
 
 // A table of used ids: its first `count` rows are in use.
