@@ -19,7 +19,7 @@ pub fn chain_lengths(o: Options, sizes: &[u64], chains: &mut [usize])
     }
 }
 
-impl TreePart<'_> {
+impl TreePart<'_, '_> {
     // "It is held back when a next run exists, that run's size is at most limit(sum of the sources), and the chain from that
     // run, used ids ignored, has max entries or more." The comment of the Rust says more than max; its code, as here, max.
     pub fn held_back(&self, o: Options, size: u64, next: usize) -> bool

@@ -1,5 +1,6 @@
 // Used ids: slatedb's ConflictChecker, whose "`HashSet` becomes a scan". The ids of all trees stand in one table.
 ghost use Rattle.std.specs.Prelude.{◌≡◌, ◌+◌, ◌<◌, ◌≤◌, length};
+ghost use Rattle.std.specs.List.{list_any};
 ghost use Rattle.tree_pick.specs.Conflict.{used_in, keys_in, KeyAdded};
 
 use rules::tables::SourceId;
@@ -11,18 +12,24 @@ pub struct Key {
     pub id: SourceId,
 }
 
-// Whether an id of a tree is used: "no source and not the destination is used". By key, and not by std's `contains`, which tests
-// many keys at a time and took up to twice as long here (docs/DESIGN-PASS.md).
-pub fn is_used(used: &[Key], prefix: u32, id: SourceId) -> bool
-    ensures { result ≡ used_in used.now prefix id }
+// Whether a row is among these. One at a time, and not by std's `contains`, which tests several at once: on full tables that took
+// up to twice the time (docs/DESIGN-PASS.md).
+pub fn is_among<T: PartialEq>(rows: &[T], wanted: &T) -> bool
+    ensures { result ≡ list_any (λ row. T.eq row wanted.now) rows.now }
 {
-    let wanted = Key { prefix, id };
-    for i in 0..used.len() {
-        if used[i] == wanted {
+    for i in 0..rows.len() {
+        if rows[i] == *wanted {
             return true;
         }
     }
     false
+}
+
+// Whether an id of a tree is used: "no source and not the destination is used".
+pub fn is_used(used: &[Key], prefix: u32, id: SourceId) -> bool
+    ensures { result ≡ used_in used.now prefix id }
+{
+    is_among(used, &Key { prefix, id })
 }
 
 // A table of used ids: its first `count` rows are in use.

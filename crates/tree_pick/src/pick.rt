@@ -43,7 +43,7 @@ fn size_of(sizes: &[u64]) -> u64
     sizes.iter().sum()
 }
 
-impl TreePart<'_> {
+impl TreePart<'_, '_> {
     // Whether no view from L0 row `from` on is used.
     fn views_free(&self, used: &[Key], from: usize) -> bool
         requires { 4 * length self.now.l0_sizes.now ≤ length self.now.l0_ids.now }

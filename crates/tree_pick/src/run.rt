@@ -32,7 +32,7 @@ pub fn build_compactable_run(o: Options, sizes: &[u64], from: usize) -> usize
     sizes.len() - from
 }
 
-impl TreePart<'_> {
+impl TreePart<'_, '_> {
     // Whether a beginning of this size passes that ends with run `i`, all but that run having passed before: it is its
     // destination too, so that one look-up serves both (TreeState's check_compaction).
     fn check_beginning(&self, o: Options, used: &[Key], i: usize, size: u64) -> bool

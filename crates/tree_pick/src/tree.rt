@@ -5,13 +5,14 @@ ghost use Rattle.tree_pick.specs.Asked.{PartOf};
 
 use rows::trees::Trees;
 
-// The parts of the slices that are the tree's, and of the table of chain lengths (slatedb's TreeState).
+// The parts of the slices that are the tree's, and of the table of chain lengths (slatedb's TreeState). The run ids are lent for a
+// time of their own, `'i`: a window is a part of them, and outlives a chain table.
 #[derive(Clone, Copy)]
-pub struct TreePart<'a> {
+pub struct TreePart<'i, 'a> {
     pub prefix: u32,
     pub l0_ids: &'a [u64],
     pub l0_sizes: &'a [u64],
-    pub run_ids: &'a [u32],
+    pub run_ids: &'i [u32],
     pub run_sizes: &'a [u64],
     pub chains: &'a [usize],
 }
@@ -28,7 +29,7 @@ pub struct AskedTree {
 
 impl AskedTree {
     // The parts of the slices that are the tree's.
-    pub fn part<'a>(self, trees: &Trees<'a>, chains: &'a [usize]) -> TreePart<'a>
+    pub fn part<'i: 'a, 'a>(self, trees: &Trees<'i>, chains: &'a [usize]) -> TreePart<'i, 'a>
         requires l0 { (4 * (self.l0_from + self.l0_count) ≤ length trees.now.l0_ids.now) × (self.l0_from + self.l0_count ≤ length trees.now.l0_sizes.now) }
         requires runs { (self.run_from + self.run_count ≤ length trees.now.run_ids.now) × (self.run_from + self.run_count ≤ length trees.now.run_sizes.now) × (self.run_from + self.run_count ≤ length chains.now) }
         ensures { PartOf self (trees_in trees.now) chains.now result }

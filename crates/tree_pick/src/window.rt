@@ -18,7 +18,7 @@ pub struct Window {
     pub count: usize,
 }
 
-impl TreePart<'_> {
+impl TreePart<'_, '_> {
     // "The pick is the least i and for it the greatest k.", of at least min runs.
     fn first_window(&self, o: Options, used: &[Key]) -> Option<Window>
         requires { (0 < o.min) × TreeState (limit_of o.threshold) self.now }
@@ -47,9 +47,9 @@ impl TreePart<'_> {
     }
 }
 
-impl<'a> TreePart<'a> {
+impl<'i> TreePart<'i, '_> {
     // "The sources of a run window are handed back as a part of the caller's run ids.": an empty part where there is none.
-    pub fn pick_window(&self, o: Options, used: &[Key]) -> &'a [u32]
+    pub fn pick_window(&self, o: Options, used: &[Key]) -> &'i [u32]
         requires { (0 < o.min) × TreeState (limit_of o.threshold) self.now }
         ensures { result.now ≡ last_of o.max (window (limit_of o.threshold) o.min o.max (used_in used.now self.now.prefix) self.now.run_ids.now self.now.run_sizes.now) }
     {
