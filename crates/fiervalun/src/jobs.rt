@@ -1,10 +1,9 @@
 // Adding, merging and retention, for C. The job count stands behind a pointer, and is changed where the table is.
-ghost use Rattle.std.specs.Prelude.{◌≡◌};
-ghost use Rattle.rules.specs.Answers.{refused};
+ghost use Rattle.rules.specs.Answers.{jobs_answer};
 ghost use Rattle.rules.specs.Lent.{lent_jobs};
 ghost use Rattle.rules.specs.Calls.{add_call, merge_call, retain_call};
 ghost use Rattle.job_rows.specs.Slices.{lent_job};
-ghost use Rattle.fiervalun.specs.Promises.{JobsPromise};
+ghost use Rattle.fiervalun.specs.Promises.{JobsPromise, JobsTold};
 
 use compactor_state::add::add;
 use compactor_state::merge::merge;
@@ -15,12 +14,16 @@ use rows::sources::Sources;
 use rules::answers::Refusal;
 use rules::tables::Ulid;
 
-// The answer as C has it: "Each returns its number alone", 0 where the work is done.
-fn number(answer: Result<(), Refusal>) -> u32
-    ensures { result ≡ refused answer }
+// The answer as C has it: the number, and the new count where the work is done. "Each returns its number alone", and where it is
+// refused nothing is written, not even the count that stood there.
+fn tell(answer: Result<(), Refusal>, count: usize, job_count: &mut usize) -> u32
+    ensures { JobsTold (jobs_answer answer count) result job_count.old job_count.new }
 {
     match answer {
-        Ok(()) => 0,
+        Ok(()) => {
+            *job_count = count;
+            0
+        }
         Err(refusal) => refusal.number(),
     }
 }
@@ -67,8 +70,7 @@ pub extern "C" fn fiervalun_add(
         sources: Sources { marks, runs, views },
     };
     let answer = add(&mut jobs, &job);
-    *job_count = jobs.count;
-    number(answer)
+    tell(answer, jobs.count, job_count)
 }
 
 #[unsafe(no_mangle)]
@@ -111,8 +113,7 @@ pub extern "C" fn fiervalun_merge(
         },
     };
     let answer = merge(&mut jobs, &remote);
-    *job_count = jobs.count;
-    number(answer)
+    tell(answer, jobs.count, job_count)
 }
 
 #[unsafe(no_mangle)]
@@ -137,6 +138,5 @@ pub extern "C" fn fiervalun_retain(
         source_views,
     };
     let answer = retain(&mut jobs);
-    *job_count = jobs.count;
-    number(answer)
+    tell(answer, jobs.count, job_count)
 }

@@ -7,5 +7,5 @@ use Rattle.fiervalun.proofs.jobs.fiervalun_add.Goals as goal
 pub returns : goal.returns
 unfolding add_call
 returns c =
-    let p = promised _ _ _ _ c.add-answer.ensures.answers c.number.ensures in
+    let p = promised _ _ _ _ c.add-answer.ensures.answers c.tell.ensures in
     search rules

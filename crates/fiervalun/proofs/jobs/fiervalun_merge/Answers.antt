@@ -7,5 +7,5 @@ use Rattle.fiervalun.proofs.jobs.fiervalun_merge.Goals as goal
 pub returns : goal.returns
 unfolding merge_call
 returns c =
-    let p = promised _ _ _ _ c.merge-answer.ensures.answers c.number.ensures in
+    let p = promised _ _ _ _ c.merge-answer.ensures.answers c.tell.ensures in
     search rules

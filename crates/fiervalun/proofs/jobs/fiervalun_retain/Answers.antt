@@ -7,5 +7,5 @@ use Rattle.fiervalun.proofs.jobs.fiervalun_retain.Goals as goal
 pub returns : goal.returns
 unfolding retain_call
 returns c =
-    let p = promised _ _ _ _ c.retain-answer.ensures.answers c.number.ensures in
+    let p = promised _ _ _ _ c.retain-answer.ensures.answers c.tell.ensures in
     search rules
