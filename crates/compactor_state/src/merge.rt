@@ -88,7 +88,9 @@ fn check_merge(jobs: &Jobs, remote: &Jobs) -> Result<MergePlan, Refusal>
     ensures { Merges (jobs_in jobs.now) (jobs_in remote.now) result }
 {
     check_both(jobs, remote)?;
-    plan_merge(jobs, remote)
+    let plan = plan_merge(jobs, remote);
+    plan.room?;
+    Ok(plan)
 }
 
 // The local jobs are changed, the remote ones only read.

@@ -1,5 +1,5 @@
 -- The job table and a job by itself, as the code hands them about, are those of the definitions: each slice by what stands in it.
-use Rattle.std.specs.Prelude.{◌≡◌}
+use Rattle.std.specs.Prelude.{◌≡◌, length}
 use Rattle.rules.specs.Lent.{LentJobs, lent_jobs}
 use Rattle.rules.specs.Jobs.{LentJob}
 use Rattle.job_rows.specs.declared.table.JobTable.{JobTable}
@@ -29,3 +29,12 @@ pub record SameTables (a b : JobTable) : Type 0 where
   pub source_marks : b.source_marks.ghost_name ≡ a.source_marks.ghost_name
   pub source_runs : b.source_runs.ghost_name ≡ a.source_runs.ghost_name
   pub source_views : b.source_views.ghost_name ≡ a.source_views.ghost_name
+
+-- each slice of b is as long as that of a
+pub record SameLengths (a b : JobTable) : Type 0 where
+  pub ids : length b.ids.now ≡ length a.ids.now
+  pub marks : length b.marks.now ≡ length a.marks.now
+  pub specs : length b.specs.now ≡ length a.specs.now
+  pub source_marks : length b.source_marks.now ≡ length a.source_marks.now
+  pub source_runs : length b.source_runs.now ≡ length a.source_runs.now
+  pub source_views : length b.source_views.now ≡ length a.source_views.now

@@ -3,7 +3,7 @@ ghost use Rattle.std.specs.Prelude.{◌≡◌, ◌+◌, ◌*◌, ◌≤◌, leng
 ghost use Rattle.rules.specs.Lists.{leading, total};
 ghost use Rattle.rules.specs.Tables.{ulid_below};
 ghost use Rattle.rules.specs.Lent.{rows_from, ulid_at};
-ghost use Rattle.job_rows.specs.Table.{table_in, job_in, SameTables};
+ghost use Rattle.job_rows.specs.Table.{table_in, job_in, SameTables, SameLengths};
 ghost use Rattle.job_rows.specs.Slices.{HasRoom, Inserts};
 
 use crate::table::{JobTable, NewJob};
@@ -38,6 +38,7 @@ impl JobTable<'_> {
     pub fn insert(&mut self, job: &NewJob)
         requires { HasRoom (table_in self.old) (job_in job.now) }
         ensures same { SameTables self.old self.new }
+        ensures lengths { SameLengths self.old self.new }
         ensures inserted { Inserts (table_in self.old) (job_in job.now) (table_in self.new) }
     {
         let n = job.sources.marks.len();

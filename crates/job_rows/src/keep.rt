@@ -3,7 +3,7 @@ ghost use Rattle.std.specs.Prelude.{◌≡◌, ◌+◌, ◌*◌, ◌≤◌, leng
 ghost use Rattle.rules.specs.Lists.{keep, total};
 ghost use Rattle.rules.specs.Lent.{rows_from};
 ghost use Rattle.rows.specs.Movers.{marked};
-ghost use Rattle.job_rows.specs.Table.{table_in, SameTables};
+ghost use Rattle.job_rows.specs.Table.{table_in, SameTables, SameLengths};
 ghost use Rattle.job_rows.specs.Slices.{AtCapacity, entry_flags, Keeps};
 
 use crate::table::JobTable;
@@ -38,6 +38,7 @@ impl JobTable<'_> {
     pub fn keep(&mut self, staying: &[u8])
         requires { AtCapacity (table_in self.old) × (self.old.count ≤ length staying.now) }
         ensures same { SameTables self.old self.new }
+        ensures lengths { SameLengths self.old self.new }
         ensures kept { Keeps (table_in self.old) staying.now (table_in self.new) }
     {
         let count = self.count;

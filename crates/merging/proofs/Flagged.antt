@@ -22,7 +22,7 @@ use Rattle.rules.proofs.Rows.{length-rows_from}
 use Rattle.rules.proofs.Packed.{length-jobs_of, job_is}
 use Rattle.rows.specs.Movers.{marked}
 use Rattle.rows.proofs.Found.{job-found, job-missing}
-use Rattle.merging.specs.Merge.{adopted, not_taken, stays, Flags}
+use Rattle.merging.specs.Merge.{adopted, not_taken, stays, Flags, HasRows}
 
 -- ---- flags that are set one by one: the first i of n say what P asks
 
@@ -53,9 +53,13 @@ module _ {P : ℕ → Bool → Type 0} {n : ℕ} {flags : List ℕ} where
           let e : k ≡ i = omega arith in
           rw (e, get_or-set_same flags i (bool_byte b) 0 (omega (arith, f.room)), marked-bool b) p
 
+-- the flags of all jobs of a table of n, where P says of each what p does
+pub flags-by : (j : LentJobs) (p : Job → Bool) {P : ℕ → Bool → Type 0} {n i : ℕ} {flags : List ℕ} → j.count ≡ n → ((k : ℕ) (b : Bool) → P k b → (d : Job) → b ≡ p (get_or (jobs_of j) k d)) → Flagged P n i flags → n ≤ i → Flags p (jobs_of j) flags
+flags-by j p e says f h = record { room = f.room; says = λ d k m. says k _ (f.says k (omega (arith, e, length-jobs_of j))) d }
+
 -- the flags of all jobs
 pub flags-all : (j : LentJobs) (p : Job → Bool) {i : ℕ} {flags : List ℕ} → Flagged (λ k b. (d : Job) → b ≡ p (get_or (jobs_of j) k d)) j.count i flags → j.count ≤ i → Flags p (jobs_of j) flags
-flags-all j p f h = record { room = f.room; says = λ d k m. f.says k (omega (arith, length-jobs_of j)) d }
+flags-all j p f h = flags-by j p refl (λ k b is. is) f h
 
 -- ---- what the look-up of a job's id in the other table says: whether the remote job is adopted, and whether the local one stays
 
@@ -63,40 +67,40 @@ unmarked : (n : ℕ) → eqb n 0 ≡ not (marked n)
 unmarked zero = refl
 unmarked (suc n) = ne_eqb (suc n) 0 (λ e. omega arith)
 
--- job i of table b, looked up in table a
-module _ (a b : LentJobs) (i : ℕ) (h : i < b.count) {k : ℕ} {id : Ulid} (v : id ≡ ulid_at b.job_ids (2 * i)) (e : k ≡ leading (λ u. not (same_ulid u id)) (rows_from (λ m. ulid_at a.job_ids (2 * m)) 0 a.count)) where
+-- job i of table b, looked up in table a; t and u are those that are read
+module _ (a b : LentJobs) {t u : LentJobs} (here : HasRows a t) (there : HasRows b u) (i : ℕ) (h : i < u.count) {k : ℕ} {id : Ulid} (v : id ≡ ulid_at u.job_ids (2 * i)) (e : k ≡ leading (λ x. not (same_ulid x id)) (rows_from (λ m. ulid_at t.job_ids (2 * m)) 0 t.count)) where
   module _ (d : Job) where
     abbrev it : Job
     it = get_or (jobs_of b) i d
 
     id_is : it.id ≡ id
-    id_is = ap (λ (x : Job). x.id) (job_is b i d h) ∙ sym v
+    id_is = ap (λ (x : Job). x.id) (job_is b i d (rw there.jobs h)) ∙ rw there.id_rows (sym v)
 
-    status_is : it.status ≡ get_or b.job_marks (2 * i) 0
-    status_is = ap (λ (x : Job). x.status) (job_is b i d h)
+    status_is : it.status ≡ get_or u.job_marks (2 * i) 0
+    status_is = ap (λ (x : Job). x.status) (job_is b i d (rw there.jobs h)) ∙ rw there.mark_rows
 
-    known : k < a.count → job_with it.id (jobs_of a) ≡ some (job_at a k (total (rows_from (source_count a) 0 k)))
-    known l = job-found a it.id k (rw id_is e) l
+    known : k < t.count → job_with it.id (jobs_of a) ≡ some (job_at a k (total (rows_from (source_count a) 0 k)))
+    known l = job-found a it.id k (rw (id_is, here.jobs, here.id_rows) e) (rw here.jobs l)
 
-    missing : a.count ≤ k → job_with it.id (jobs_of a) ≡ none
-    missing l = job-missing a it.id k (rw id_is e) l
+    missing : t.count ≤ k → job_with it.id (jobs_of a) ≡ none
+    missing l = job-missing a it.id k (rw (id_is, here.jobs, here.id_rows) e) (rw here.jobs l)
 
   -- a remote job in the local table
-  pub adopted-known : {r : Bool} → k < a.count → r ≡ eqb (get_or (get_or adoption (get_or a.job_marks (2 * k) 0 + 1) []) (get_or b.job_marks (2 * i) 0) 0) 1 → (d : Job) → r ≡ adopted (jobs_of a) (it d)
-  adopted-known l r d = r ∙ rw (← status_is d, add-one) (sym (ap (λ (o : Option Job). adopts o (it d)) (known d l)))
+  pub adopted-known : {r : Bool} → k < t.count → r ≡ eqb (get_or (get_or adoption (get_or t.job_marks (2 * k) 0 + 1) []) (get_or u.job_marks (2 * i) 0) 0) 1 → (d : Job) → r ≡ adopted (jobs_of a) (it d)
+  adopted-known l r d = r ∙ rw (← status_is d, ← here.mark_rows, add-one) (sym (ap (λ (o : Option Job). adopts o (it d)) (known d l)))
 
-  pub adopted-absent : {r : Bool} → a.count ≤ k → r ≡ eqb (get_or (get_or adoption 0 []) (get_or b.job_marks (2 * i) 0) 0) 1 → (d : Job) → r ≡ adopted (jobs_of a) (it d)
+  pub adopted-absent : {r : Bool} → t.count ≤ k → r ≡ eqb (get_or (get_or adoption 0 []) (get_or u.job_marks (2 * i) 0) 0) 1 → (d : Job) → r ≡ adopted (jobs_of a) (it d)
   adopted-absent l r d = r ∙ rw (← status_is d) (sym (ap (λ (o : Option Job). adopts o (it d)) (missing d l)))
 
   -- a local job in the remote table
-  pub stays-found : {p : Job → Bool} {flags : List ℕ} {r : Bool} → Flags p (jobs_of a) flags → k < a.count → r ≡ eqb (get_or flags k 0) 0 → (d : Job) → r ≡ stays p (jobs_of a) (it d)
+  pub stays-found : {p : Job → Bool} {flags : List ℕ} {r : Bool} → Flags p (jobs_of a) flags → k < t.count → r ≡ eqb (get_or flags k 0) 0 → (d : Job) → r ≡ stays p (jobs_of a) (it d)
   stays-found {p} {flags} f l r d =
       r
       ∙ unmarked (get_or flags k 0)
-      ∙ ap not (f.says d k (omega (arith, length-jobs_of a)) ∙ ap p (job_is a k d l))
+      ∙ ap not (f.says d k (omega (arith, length-jobs_of a, here.jobs)) ∙ ap p (job_is a k d (rw here.jobs l)))
       ∙ sym (ap (not_taken p) (known d l))
 
-  pub stays-missing : (p : Job → Bool) → a.count ≤ k → (d : Job) → true ≡ stays p (jobs_of a) (it d)
+  pub stays-missing : (p : Job → Bool) → t.count ≤ k → (d : Job) → true ≡ stays p (jobs_of a) (it d)
   stays-missing p l d = sym (ap (not_taken p) (missing d l))
 
 -- ---- the sums over the jobs with a flag

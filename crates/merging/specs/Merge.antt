@@ -46,6 +46,13 @@ pub record GoodRows (j : LentJobs) : Type 0 where
   pub rises : linked (λ (a b : Job). ulid_below a.id b.id) (jobs_of j) ≡ true
   pub status : (k : ℕ) → k < j.count → get_or j.job_marks (2 * k) 0 ≤ 5
 
+-- a table with the count and the slices of table t, those of its source entries aside
+pub record HasRows (j t : LentJobs) : Type 0 where
+  pub jobs : j.count ≡ t.count
+  pub id_rows : j.job_ids ≡ t.job_ids
+  pub mark_rows : j.job_marks ≡ t.job_marks
+  pub spec_rows : j.job_specs ≡ t.job_specs
+
 -- what is found out of a local and a remote table: the flags
 pub record Planned (l r : LentJobs) (taken staying : List ℕ) : Type 0 where
   pub takes : Flags (adopted (jobs_of l)) (jobs_of r) taken

@@ -1,12 +1,11 @@
 // What merging finds out before it changes anything: which remote jobs are adopted, which local jobs stay, and refusal 14.
-ghost use Rattle.std.specs.Prelude.{◌≡◌, ◌<◌, cond, get_or};
-ghost use Rattle.std.specs.Result.{IfOk};
+ghost use Rattle.std.specs.Prelude.{◌≡◌, Bool, ◌<◌, cond, get_or};
 ghost use Rattle.rules.specs.Answers.{refused};
 ghost use Rattle.rules.specs.Tables.{Job};
-ghost use Rattle.rules.specs.Lent.{jobs_of};
+ghost use Rattle.rules.specs.Lent.{LentJobs, jobs_of};
 ghost use Rattle.rules.specs.Jobs.{merged, too_many};
 ghost use Rattle.rows.specs.InSlices.{jobs_in};
-ghost use Rattle.merging.specs.Merge.{adopted, stays, Flags, GoodRows, Planned};
+ghost use Rattle.merging.specs.Merge.{adopted, stays, Flags, GoodRows, HasRows, Planned};
 
 use crate::adoption::adopts;
 use crate::room::{exceeds, flagged_entries, flagged_jobs};
@@ -17,7 +16,7 @@ use rules::answers::Refusal;
 // Whether remote job `i` is adopted, by the status of the local job of its id or by its absence.
 fn adopted_at(jobs: &Jobs, remote: &Jobs, i: usize) -> bool
     requires { GoodRows (jobs_in jobs.now) × GoodRows (jobs_in remote.now) × (i < remote.now.count) }
-    ensures { (d : Job) → result ≡ adopted (jobs_of (jobs_in jobs.now)) (get_or (jobs_of (jobs_in remote.now)) i d) }
+    ensures { (l s : LentJobs) (d : Job) → HasRows l (jobs_in jobs.now) → HasRows s (jobs_in remote.now) → result ≡ adopted (jobs_of l) (get_or (jobs_of s) i d) }
 {
     let status = remote.marks[2 * i] as usize;
     match jobs.find(ulid(remote.ids, 2 * i)) {
@@ -29,7 +28,7 @@ fn adopted_at(jobs: &Jobs, remote: &Jobs, i: usize) -> bool
 // The flags of the remote jobs that are adopted, by the local jobs as they were lent.
 fn mark_adopted(jobs: &Jobs, remote: &Jobs) -> [u8; 64]
     requires { GoodRows (jobs_in jobs.now) × GoodRows (jobs_in remote.now) }
-    ensures { Flags (adopted (jobs_of (jobs_in jobs.now))) (jobs_of (jobs_in remote.now)) result }
+    ensures { (l s : LentJobs) → HasRows l (jobs_in jobs.now) → HasRows s (jobs_in remote.now) → Flags (adopted (jobs_of l)) (jobs_of s) result }
 {
     let mut flags = [0; 64];
     for i in 0..remote.count {
@@ -40,9 +39,8 @@ fn mark_adopted(jobs: &Jobs, remote: &Jobs) -> [u8; 64]
 
 // Whether local job `k` stays: "Local jobs missing remotely stay.", and one whose remote record is adopted goes.
 fn stays_at(jobs: &Jobs, remote: &Jobs, taken: &[u8; 64], k: usize) -> bool
-    requires good { GoodRows (jobs_in jobs.now) × GoodRows (jobs_in remote.now) × (k < jobs.now.count) }
-    requires taken { Flags (adopted (jobs_of (jobs_in jobs.now))) (jobs_of (jobs_in remote.now)) taken.now }
-    ensures { (d : Job) → result ≡ stays (adopted (jobs_of (jobs_in jobs.now))) (jobs_of (jobs_in remote.now)) (get_or (jobs_of (jobs_in jobs.now)) k d) }
+    requires { GoodRows (jobs_in jobs.now) × GoodRows (jobs_in remote.now) × (k < jobs.now.count) }
+    ensures { (l s : LentJobs) (p : Job → Bool) (d : Job) → HasRows l (jobs_in jobs.now) → HasRows s (jobs_in remote.now) → Flags p (jobs_of s) taken.now → result ≡ stays p (jobs_of s) (get_or (jobs_of l) k d) }
 {
     match remote.find(ulid(jobs.ids, 2 * k)) {
         Some(i) => taken[i] == 0,
@@ -52,9 +50,8 @@ fn stays_at(jobs: &Jobs, remote: &Jobs, taken: &[u8; 64], k: usize) -> bool
 
 // The flags of the local jobs that stay.
 fn mark_staying(jobs: &Jobs, remote: &Jobs, taken: &[u8; 64]) -> [u8; 64]
-    requires good { GoodRows (jobs_in jobs.now) × GoodRows (jobs_in remote.now) }
-    requires taken { Flags (adopted (jobs_of (jobs_in jobs.now))) (jobs_of (jobs_in remote.now)) taken.now }
-    ensures { Flags (stays (adopted (jobs_of (jobs_in jobs.now))) (jobs_of (jobs_in remote.now))) (jobs_of (jobs_in jobs.now)) result }
+    requires { GoodRows (jobs_in jobs.now) × GoodRows (jobs_in remote.now) }
+    ensures { (l s : LentJobs) (p : Job → Bool) → HasRows l (jobs_in jobs.now) → HasRows s (jobs_in remote.now) → Flags p (jobs_of s) taken.now → Flags (stays p (jobs_of s)) (jobs_of l) result }
 {
     let mut flags = [0; 64];
     for k in 0..jobs.count {
@@ -63,24 +60,30 @@ fn mark_staying(jobs: &Jobs, remote: &Jobs, taken: &[u8; 64]) -> [u8; 64]
     flags
 }
 
-// The flags, as the movers of rows take them: of the remote jobs that are taken, and of the local ones that stay.
+// The flags, as the movers of rows take them: of the remote jobs that are taken, and of the local ones that stay; and whether
+// there is room for the result.
 #[derive(Clone, Copy)]
 pub struct MergePlan {
     pub taken: [u8; 64],
     pub staying: [u8; 64],
+    pub room: Result<(), Refusal>,
 }
 
 // All that is to be known before the first byte is written. A remote job that is taken goes in where the local one of its id,
 // which does not stay, goes out: the sums are those of the result.
-pub fn plan_merge(jobs: &Jobs, remote: &Jobs) -> Result<MergePlan, Refusal>
+pub fn plan_merge(jobs: &Jobs, remote: &Jobs) -> MergePlan
     requires { GoodRows (jobs_in jobs.now) × GoodRows (jobs_in remote.now) }
-    ensures fits { refused result ≡ cond (too_many (merged (jobs_of (jobs_in jobs.now)) (jobs_of (jobs_in remote.now)))) 14 0 }
-    ensures planned { IfOk result (λ p. Planned (jobs_in jobs.now) (jobs_in remote.now) p.taken p.staying) }
+    ensures fits { (l s : LentJobs) → HasRows l (jobs_in jobs.now) → HasRows s (jobs_in remote.now) → refused result.room ≡ cond (too_many (merged (jobs_of l) (jobs_of s))) 14 0 }
+    ensures planned { (l s : LentJobs) → HasRows l (jobs_in jobs.now) → HasRows s (jobs_in remote.now) → Planned l s result.taken result.staying }
 {
     let taken = mark_adopted(jobs, remote);
     let staying = mark_staying(jobs, remote, &taken);
     let count = flagged_jobs(&staying, jobs.count) + flagged_jobs(&taken, remote.count);
     let entries = flagged_entries(&staying, jobs) + flagged_entries(&taken, remote);
-    exceeds(count, entries)?;
-    Ok(MergePlan { taken, staying })
+    let room = exceeds(count, entries);
+    MergePlan {
+        taken,
+        staying,
+        room,
+    }
 }
