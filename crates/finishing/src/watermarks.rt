@@ -42,6 +42,7 @@ pub fn finish_mark(trees: &Trees, i: usize, part: TreeRows, first: SourceId) -> 
 }
 
 // How many of `rows` rows from row `first` on stand before the first that goes, where one goes.
+#[tactic(auto, using(rows::proofs::Finds::seek_found))]
 fn first_gone(kept: &[u8], first: usize, rows: usize) -> Option<usize>
     requires { first + rows ≤ length kept.now }
     ensures found { place_of rows result ≡ leading (λ f. not (eqb f 0)) (rows_from (λ k. get_or kept.now k 0) first rows) }
