@@ -4,7 +4,7 @@ ghost use Rattle.rules.specs.declared.tables.Ulid.{Ulid};
 ghost use Rattle.rules.specs.Bounds.{trees_refusal, jobs_refusal};
 ghost use Rattle.rules.specs.Calls.{drain_call};
 ghost use Rattle.rows.specs.InSlices.{trees_in, jobs_in};
-ghost use Rattle.tree_rows.specs.Table.{table_in, SameSlices};
+ghost use Rattle.tree_rows.specs.Table.{table_in, SameSlices, SameLengths};
 ghost use Rattle.finishing.specs.Finding.{job_in, JobFound, TreeFound};
 ghost use Rattle.finishing.specs.Flagging.{TreeRoom, JobRoom, Unflagged};
 ghost use Rattle.compactor_finish.specs.Ending.{ending_in, SameMarks};
@@ -41,6 +41,8 @@ fn mark_drain(
 pub fn drain(trees: &mut TreeTable, jobs: &mut EndingJobs, id: Ulid) -> Result<Finished, Refusal>
     ensures same_trees { SameSlices trees.old trees.new }
     ensures same_jobs { SameMarks jobs.old jobs.new }
+    ensures tree_lengths { SameLengths trees.old trees.new }
+    ensures mark_lengths { length jobs.new.marks.now ≡ length jobs.old.marks.now }
     ensures leaves { Leaves (drain_call (table_in trees.old) (ending_in jobs.old) id) (ending_in jobs.old) result (table_in trees.new) (ending_in jobs.new) }
 {
     let mut l0_kept = [1; MAX_L0];

@@ -5,7 +5,7 @@ ghost use Rattle.rules.specs.Lent.{source_count};
 ghost use Rattle.rules.specs.Bounds.{trees_refusal, jobs_refusal};
 ghost use Rattle.rules.specs.Calls.{finish_call};
 ghost use Rattle.rows.specs.InSlices.{trees_in, jobs_in};
-ghost use Rattle.tree_rows.specs.Table.{table_in, SameSlices};
+ghost use Rattle.tree_rows.specs.Table.{table_in, SameSlices, SameLengths};
 ghost use Rattle.finishing.specs.Finding.{job_in, JobFound, TreeFound};
 ghost use Rattle.finishing.specs.Flagging.{TreeRoom, JobRoom, Unflagged};
 ghost use Rattle.compactor_finish.specs.Ending.{ending_in, SameMarks};
@@ -63,6 +63,8 @@ pub fn finish(
 ) -> Result<Finished, Refusal>
     ensures same_trees { SameSlices trees.old trees.new }
     ensures same_jobs { SameMarks jobs.old jobs.new }
+    ensures tree_lengths { SameLengths trees.old trees.new }
+    ensures mark_lengths { length jobs.new.marks.now ≡ length jobs.old.marks.now }
     ensures leaves { Leaves (finish_call (table_in trees.old) (ending_in jobs.old) id output) (ending_in jobs.old) result (table_in trees.new) (ending_in jobs.new) }
 {
     let mut l0_kept = [1; MAX_L0];

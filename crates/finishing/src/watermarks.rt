@@ -3,10 +3,9 @@ ghost use Rattle.std.specs.Prelude.{◌≡◌, Bool, not, ℕ, ◌+◌, ◌*◌,
 ghost use Rattle.rules.specs.Lists.{keep, leading};
 ghost use Rattle.rules.specs.declared.tables.SourceId.{SourceId};
 ghost use Rattle.rules.specs.Tables.{L0Row, Tree};
-ghost use Rattle.rules.specs.Lent.{rows_from, l0_at, watermark_at};
+ghost use Rattle.rules.specs.Lent.{LentTrees, rows_from, l0_at, watermark_at};
 ghost use Rattle.rules.specs.Finish.{finish_mark, drain_mark};
 ghost use Rattle.rows.specs.Movers.{marked};
-ghost use Rattle.rows.specs.InSlices.{trees_in};
 ghost use Rattle.rows.specs.Found.{place_of};
 
 use rows::find::view_in;
@@ -19,7 +18,7 @@ use rules::tables::{SourceId, Ulid, Watermark};
 // `i`, whose rows are those of `part`.
 pub fn finish_mark(trees: &Trees, i: usize, part: TreeRows, first: SourceId) -> Watermark
     requires { (2 * i + 1 < length trees.now.watermark_marks.now) × (4 * i + 3 < length trees.now.watermarks.now) × (4 * (part.first_row + part.rows) ≤ length trees.now.l0_ids.now) }
-    ensures { (x : Tree) (others : List SourceId) → x.watermark ≡ watermark_at (trees_in trees.now) i → x.l0 ≡ rows_from (l0_at (trees_in trees.now)) part.first_row part.rows → result ≡ finish_mark (first ∷ others) x }
+    ensures { (t : LentTrees) (x : Tree) (others : List SourceId) → t.watermark_marks ≡ trees.now.watermark_marks.now → t.watermarks ≡ trees.now.watermarks.now → t.l0_ids ≡ trees.now.l0_ids.now → x.watermark ≡ watermark_at t i → x.l0 ≡ rows_from (l0_at t) part.first_row part.rows → result ≡ finish_mark (first ∷ others) x }
 {
     let SourceId::SstView(view) = first else {
         return trees.watermark(i);
@@ -42,6 +41,7 @@ pub fn finish_mark(trees: &Trees, i: usize, part: TreeRows, first: SourceId) -> 
 }
 
 // How many of `rows` rows from row `first` on stand before the first that goes, where one goes.
+#[tactic(auto, using(rows::proofs::Finds::seek_found))]
 fn first_gone(kept: &[u8], first: usize, rows: usize) -> Option<usize>
     requires { first + rows ≤ length kept.now }
     ensures found { place_of rows result ≡ leading (λ f. not (eqb f 0)) (rows_from (λ k. get_or kept.now k 0) first rows) }
@@ -58,7 +58,7 @@ fn first_gone(kept: &[u8], first: usize, rows: usize) -> Option<usize>
 // "the watermark moves to the first L0 row in table order that is a source, if any": `kept` has 0 for those.
 pub fn drain_mark(trees: &Trees, i: usize, part: TreeRows, kept: &[u8]) -> Watermark
     requires { (2 * i + 1 < length trees.now.watermark_marks.now) × (4 * i + 3 < length trees.now.watermarks.now) × (4 * (part.first_row + part.rows) ≤ length trees.now.l0_ids.now) × (part.first_row + part.rows ≤ length kept.now) }
-    ensures { (x : Tree) (p : L0Row → Bool) → x.watermark ≡ watermark_at (trees_in trees.now) i → ((k : ℕ) → k < part.rows → marked (get_or kept.now (part.first_row + k) 0) ≡ not (p (l0_at (trees_in trees.now) (part.first_row + k)))) → result ≡ drain_mark (keep p (rows_from (l0_at (trees_in trees.now)) part.first_row part.rows)) x }
+    ensures { (t : LentTrees) (x : Tree) (p : L0Row → Bool) → t.watermark_marks ≡ trees.now.watermark_marks.now → t.watermarks ≡ trees.now.watermarks.now → t.l0_ids ≡ trees.now.l0_ids.now → x.watermark ≡ watermark_at t i → ((k : ℕ) → k < part.rows → marked (get_or kept.now (part.first_row + k) 0) ≡ not (p (l0_at t (part.first_row + k)))) → result ≡ drain_mark (keep p (rows_from (l0_at t) part.first_row part.rows)) x }
 {
     let Some(k) = first_gone(kept, part.first_row, part.rows) else {
         return trees.watermark(i);

@@ -1,8 +1,13 @@
--- What a change of one tree asks of the table.
+-- What a change of one tree asks of the table, and the slices that one is lent, of any table that has them.
 use Rattle.std.specs.Prelude.{ℕ, ◌+◌, ◌*◌, ◌≤◌, ◌<◌, ◌≡◌, List, length, get_or}
 use Rattle.rules.specs.Lists.{total}
 use Rattle.rules.specs.Lent.{LentTrees, rows_from, run_count, l0_used, runs_used}
 use Rattle.rules.specs.Bounds.{max_trees, max_l0, max_runs}
+
+-- the slices of watermarks
+pub record MarksOf (t : LentTrees) (marks' watermarks' : List ℕ) : Type 0 where
+  pub watermark_marks : marks' ≡ t.watermark_marks
+  pub watermarks : watermarks' ≡ t.watermarks
 
 -- how many L0 rows, and how many runs, the first n trees have
 abbrev pub rows_before : List ℕ → ℕ → ℕ

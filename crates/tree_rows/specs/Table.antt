@@ -1,6 +1,6 @@
 -- A lent table that is changed: what stands in its slices is a table of the definitions, and the slices stay the ones that
 -- were lent.
-use Rattle.std.specs.Prelude.{◌≡◌}
+use Rattle.std.specs.Prelude.{◌≡◌, length}
 use Rattle.rules.specs.Lent.{LentTrees, lent_trees}
 use Rattle.tree_rows.specs.declared.table.TreeTable.{TreeTable}
 
@@ -16,6 +16,16 @@ pub record SameSlices (a b : TreeTable) : Type 0 where
   pub l0_sizes : b.l0_sizes.ghost_name ≡ a.l0_sizes.ghost_name
   pub run_ids : b.run_ids.ghost_name ≡ a.run_ids.ghost_name
   pub run_sizes : b.run_sizes.ghost_name ≡ a.run_sizes.ghost_name
+
+-- each slice is as long as it was
+pub record SameLengths (a b : TreeTable) : Type 0 where
+  pub rows : length b.rows.now ≡ length a.rows.now
+  pub watermark_marks : length b.watermark_marks.now ≡ length a.watermark_marks.now
+  pub watermarks : length b.watermarks.now ≡ length a.watermarks.now
+  pub l0_ids : length b.l0_ids.now ≡ length a.l0_ids.now
+  pub l0_sizes : length b.l0_sizes.now ≡ length a.l0_sizes.now
+  pub run_ids : length b.run_ids.now ≡ length a.run_ids.now
+  pub run_sizes : length b.run_sizes.now ≡ length a.run_sizes.now
 
 -- ---- a table with some of its slices from another: what a change touches, and the rest as it stood
 

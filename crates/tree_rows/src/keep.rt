@@ -7,7 +7,7 @@ ghost use Rattle.rules.specs.Lent.{trees_of, lay_trees};
 ghost use Rattle.rows.specs.Movers.{marked};
 ghost use Rattle.tree_rows.specs.Change.{changed_at, keep_rows, L0Flags, RunFlags};
 ghost use Rattle.tree_rows.specs.Slices.{KeepRoom};
-ghost use Rattle.tree_rows.specs.Table.{table_in, SameSlices, with_rows};
+ghost use Rattle.tree_rows.specs.Table.{table_in, SameSlices, SameLengths, with_rows};
 
 use crate::table::TreeTable;
 use rows::movers;
@@ -26,6 +26,7 @@ impl TreeTable<'_> {
     pub fn keep_rows(&mut self, i: usize, l0_kept: &[u8], runs_kept: &[u8])
         requires { KeepRoom (table_in self.old) i l0_kept.now runs_kept.now }
         ensures same { SameSlices self.old self.new }
+        ensures lengths { SameLengths self.old self.new }
         ensures others { table_in self.new ≡ with_rows (table_in self.old) (table_in self.new) }
         ensures kept { (p : L0Row → Bool) (q : Run → Bool) → L0Flags (table_in self.old) i p l0_kept.now → RunFlags (table_in self.old) i q runs_kept.now → table_in self.new ≡ with_rows (table_in self.old) (lay_trees (table_in self.old) (changed_at i (keep_rows p q) (trees_of (table_in self.old)))) }
     {

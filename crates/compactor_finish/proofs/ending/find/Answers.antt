@@ -1,5 +1,5 @@
 -- `find` meets its contract: 1 and 2 of the tables, or what `find_work` finds in good ones (Commits.antt).
-use mathlib.Core.Path.{sym}
+use mathlib.Core.Path.{refl, sym}
 use Rattle.std.proofs.lemmas.Result.{err_from_is_err_and}
 use Rattle.rules.specs.Tables.{mark_of}
 use Rattle.rows.specs.InSlices.{trees_in, jobs_in}
@@ -15,4 +15,4 @@ pub find_work-requires : goal.find_work-requires
 find_work-requires c = work-fit (trees_in c.args.trees.now) (jobs_in c.args.jobs.now) (sym c.in_ok-check_tables.ensures)
 
 pub returns : goal.returns
-returns c = work-case (trees_in c.args.trees.now) (jobs_in c.args.jobs.now) c.args.id (mark_of c.args.kind) (sym c.in_ok-check_tables.ensures) c.find_work.result c.find_work.ensures
+returns c = work-case (trees_in c.args.trees.now) (jobs_in c.args.jobs.now) c.args.id (mark_of c.args.kind) (sym c.in_ok-check_tables.ensures) c.find_work.result (c.find_work.ensures (trees_in c.args.trees.now) (jobs_in c.args.jobs.now) refl refl refl refl refl refl)

@@ -25,4 +25,4 @@ returns c =
     let x : Tree = tree_at t c.args.tree (total (rows_from (l0_count t) 0 c.args.tree)) (total (rows_from (run_count t) 0 c.args.tree)) in
     finish-commits t j u tg jg F c.args.output G c.flag_tree.ensures c.part-part.ensures c.runs_used-used.ensures c.in_ok-at.ensures _ refl c.finish_mark-watermark.result
     (mark-of j c.args.job _ _ c.part-entries.ensures c.requires.room.4 x c.finish_mark-watermark.result (c.id.ensures ∙ ap id_of c.at-first.ensures)
-    (λ others. c.finish_mark-watermark.ensures x others refl (own-rows t c.args.tree c.part-part.ensures)))
+    (λ others. c.finish_mark-watermark.ensures t x others refl refl refl refl (own-rows t c.args.tree c.part-part.ensures)))
