@@ -8,7 +8,7 @@ ghost use Rattle.rules.specs.Jobs.{job_misshapen, add_refusal};
 ghost use Rattle.rules.specs.Calls.{add_call};
 ghost use Rattle.rows.specs.InSlices.{jobs_in};
 ghost use Rattle.merging.specs.Merge.{Flags};
-ghost use Rattle.job_rows.specs.Table.{table_in, job_in, SameTables};
+ghost use Rattle.job_rows.specs.Table.{table_in, job_in, SameTables, SameLengths};
 ghost use Rattle.compactor_state.specs.AddCall.{refused_first, refused_full};
 ghost use Rattle.compactor_state.specs.Answers.{Answers};
 
@@ -88,6 +88,7 @@ fn plan_add(jobs: &Jobs, job: &NewJob) -> Result<[u8; 64], Refusal>
 // "Adding an id already present replaces that record."
 pub fn add(jobs: &mut JobTable, job: &NewJob) -> Result<(), Refusal>
     ensures same { SameTables jobs.old jobs.new }
+    ensures lengths { SameLengths jobs.old jobs.new }
     ensures answers { Answers (add_call (table_in jobs.old) (job_in job.now)) result (table_in jobs.new) }
 {
     let staying = plan_add(&jobs.rows(), job)?;

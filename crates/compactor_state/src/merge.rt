@@ -7,7 +7,7 @@ ghost use Rattle.rules.specs.Lent.{lay_jobs, jobs_of};
 ghost use Rattle.rules.specs.Jobs.{merged};
 ghost use Rattle.rules.specs.Calls.{merge_call};
 ghost use Rattle.rows.specs.InSlices.{jobs_in};
-ghost use Rattle.job_rows.specs.Table.{table_in, SameTables};
+ghost use Rattle.job_rows.specs.Table.{table_in, SameTables, SameLengths};
 ghost use Rattle.compactor_state.specs.Answers.{Answers};
 ghost use Rattle.compactor_state.specs.MergeCall.{tables_refusal, Merges};
 ghost use Rattle.compactor_state.specs.Taking.{CanTake, Took, CanTakeAll, TookAll, Ready};
@@ -25,6 +25,7 @@ use rules::answers::Refusal;
 fn take_at(jobs: &mut JobTable, remote: &Jobs, taken: &[u8; 64], i: usize, at: usize)
     requires { CanTake (table_in jobs.old) (jobs_in remote.now) taken.now i at }
     ensures same { SameTables jobs.old jobs.new }
+    ensures lengths { SameLengths jobs.old jobs.new }
     ensures took { Took (table_in jobs.old) (jobs_in remote.now) taken.now i at (table_in jobs.new) }
 {
     if taken[i] == 0 {
@@ -50,6 +51,7 @@ fn take_at(jobs: &mut JobTable, remote: &Jobs, taken: &[u8; 64], i: usize, at: u
 fn take_adopted(jobs: &mut JobTable, remote: &Jobs, taken: &[u8; 64])
     requires { CanTakeAll (table_in jobs.old) (jobs_in remote.now) taken.now }
     ensures same { SameTables jobs.old jobs.new }
+    ensures lengths { SameLengths jobs.old jobs.new }
     ensures took { TookAll (table_in jobs.old) (jobs_in remote.now) taken.now (table_in jobs.new) }
 {
     let mut at = 0;
@@ -63,6 +65,7 @@ fn take_adopted(jobs: &mut JobTable, remote: &Jobs, taken: &[u8; 64])
 fn merge_rows(jobs: &mut JobTable, remote: &Jobs, plan: &MergePlan)
     requires { Ready (table_in jobs.old) (jobs_in remote.now) plan.now.taken plan.now.staying }
     ensures same { SameTables jobs.old jobs.new }
+    ensures lengths { SameLengths jobs.old jobs.new }
     ensures merged { table_in jobs.new ≡ lay_jobs (table_in jobs.old) (merged (jobs_of (table_in jobs.old)) (jobs_of (jobs_in remote.now))) }
 {
     jobs.keep(&plan.staying);
@@ -96,6 +99,7 @@ fn check_merge(jobs: &Jobs, remote: &Jobs) -> Result<MergePlan, Refusal>
 // The local jobs are changed, the remote ones only read.
 pub fn merge(jobs: &mut JobTable, remote: &Jobs) -> Result<(), Refusal>
     ensures same { SameTables jobs.old jobs.new }
+    ensures lengths { SameLengths jobs.old jobs.new }
     ensures answers { Answers (merge_call (table_in jobs.old) (jobs_in remote.now)) result (table_in jobs.new) }
 {
     let plan = check_merge(&jobs.rows(), remote)?;

@@ -2,7 +2,7 @@
 ghost use Rattle.std.specs.Prelude.{◌≡◌, not, ◌||◌, ◌*◌, ◌≤◌, leb, length};
 ghost use Rattle.rules.specs.Calls.{retain_call};
 ghost use Rattle.rows.specs.InSlices.{jobs_in};
-ghost use Rattle.job_rows.specs.Table.{table_in, SameTables};
+ghost use Rattle.job_rows.specs.Table.{table_in, SameTables, SameLengths};
 ghost use Rattle.compactor_state.specs.Retention.{finished_status, Retains};
 ghost use Rattle.compactor_state.specs.Answers.{Answers};
 
@@ -44,6 +44,7 @@ fn mark_retained(jobs: &Jobs) -> [u8; 64]
 // "Retention keeps active jobs and the finished job of largest id."
 pub fn retain(jobs: &mut JobTable) -> Result<(), Refusal>
     ensures same { SameTables jobs.old jobs.new }
+    ensures lengths { SameLengths jobs.old jobs.new }
     ensures answers { Answers (retain_call (table_in jobs.old)) result (table_in jobs.new) }
 {
     let rows = jobs.rows();

@@ -18,6 +18,13 @@ pub record SameTable (a b : PlanTable) : Type 0 where
   pub runs : b.runs.ghost_name ≡ a.runs.ghost_name
   pub views : b.views.ghost_name ≡ a.views.ghost_name
 
+-- each slice is as long as it was
+pub record SameLengths (a b : PlanTable) : Type 0 where
+  pub specs : length b.specs.now ≡ length a.specs.now
+  pub marks : length b.marks.now ≡ length a.marks.now
+  pub runs : length b.runs.now ≡ length a.runs.now
+  pub views : length b.views.now ≡ length a.views.now
+
 -- `new` stands from number `at` on, and all else is as it was
 pub record Written (before : List ℕ) (at : ℕ) (new after : List ℕ) : Type 0 where
   pub room : at + length new ≤ length before

@@ -4,7 +4,7 @@ ghost use Rattle.rules.specs.Lent.{LentTrees};
 ghost use Rattle.rules.specs.Planning.{spec_sources};
 ghost use Rattle.rows.specs.InSlices.{trees_in};
 ghost use Rattle.plan_passes.specs.Picks.{spec_of, specs_of, SourcesLent, PickWithin, PicksWithin};
-ghost use Rattle.plan_passes.specs.Lay.{plan_in, SameTable, Room, SpecsLaid, SourcesWritten, SourcesLaid};
+ghost use Rattle.plan_passes.specs.Lay.{plan_in, SameTable, SameLengths, Room, SpecsLaid, SourcesWritten, SourcesLaid};
 
 use crate::picks::PickRow;
 use rows::trees::Trees;
@@ -24,6 +24,7 @@ impl PlanTable<'_> {
     pub fn lay_specs(&mut self, picks: &[PickRow])
         requires { 3 * length picks.now ≤ length self.old.specs.now }
         ensures same { SameTable self.old self.new }
+        ensures lengths { SameLengths self.old self.new }
         ensures laid { (t : LentTrees) → SpecsLaid (plan_in self.old) (specs_of t picks.now) (plan_in self.new) }
     {
         for k in 0..picks.len() {
@@ -39,6 +40,7 @@ impl PlanTable<'_> {
     fn put(&mut self, at: usize, source: SourceId)
         requires { Room (at + 1) (plan_in self.old) }
         ensures same { SameTable self.old self.new }
+        ensures lengths { SameLengths self.old self.new }
         ensures put { SourcesWritten (plan_in self.old) at (source ∷ []) (plan_in self.new) }
     {
         let v = 2 * at;
@@ -62,6 +64,7 @@ impl PlanTable<'_> {
     fn lay_pick(&mut self, at: usize, pick: PickRow, trees: &Trees) -> usize
         requires { PickWithin pick × SourcesLent (trees_in trees.now) × Room (at + pick.count) (plan_in self.old) }
         ensures same { SameTable self.old self.new }
+        ensures lengths { SameLengths self.old self.new }
         ensures laid { (result ≡ at + pick.count) × SourcesWritten (plan_in self.old) at (spec_of (trees_in trees.now) pick).sources (plan_in self.new) }
     {
         for k in 0..pick.count as usize {
@@ -74,6 +77,7 @@ impl PlanTable<'_> {
     pub fn lay_sources(&mut self, picks: &[PickRow], trees: &Trees)
         requires { PicksWithin picks.now × SourcesLent (trees_in trees.now) × Room (length (spec_sources (specs_of (trees_in trees.now) picks.now))) (plan_in self.old) }
         ensures same { SameTable self.old self.new }
+        ensures lengths { SameLengths self.old self.new }
         ensures laid { SourcesLaid (plan_in self.old) (spec_sources (specs_of (trees_in trees.now) picks.now)) (plan_in self.new) }
     {
         let mut at = 0;

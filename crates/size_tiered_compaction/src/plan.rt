@@ -6,7 +6,7 @@ ghost use Rattle.rules.specs.Planning.{spec_places, source_places, plan_refusal}
 ghost use Rattle.rules.specs.Answers.{refused, plan_answer};
 ghost use Rattle.rules.specs.Calls.{plan_call};
 ghost use Rattle.rows.specs.InSlices.{trees_in, jobs_in};
-ghost use Rattle.plan_passes.specs.Lay.{plan_in, SameTable};
+ghost use Rattle.plan_passes.specs.Lay.{plan_in, SameTable, SameLengths};
 ghost use Rattle.size_tiered_compaction.specs.Proposing.{plan_result, planning_refusal, Ready, Proposes};
 
 use plan_passes::lay::PlanTable;
@@ -129,6 +129,7 @@ pub fn plan(
     plan: &mut PlanTable,
 ) -> Result<Planned, Refusal>
     ensures same { SameTable plan.old plan.new }
+    ensures lengths { SameLengths plan.old plan.new }
     ensures made { plan_result (plan_answer result) (plan_in plan.new) ≡ plan_call o (trees_in trees.now) (jobs_in jobs.now) (plan_in plan.old) }
 {
     check_plan(o, trees, jobs, plan)?;

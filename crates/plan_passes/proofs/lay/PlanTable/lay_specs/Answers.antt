@@ -4,10 +4,10 @@ use Rattle.plan_passes.proofs.LaidPicks.{specs-starts, specs-next, specs-ends}
 use Rattle.plan_passes.proofs.lay.PlanTable.lay_specs.Goals as goal
 
 pub loop-k-init : goal.loop-k-init
-loop-k-init c = (search rules, specs-starts)
+loop-k-init c = (search rules, search rules, specs-starts)
 
 pub loop-k-preserved : goal.loop-k-preserved
-loop-k-preserved c = (search rules, specs-next c.loop-k.invariant.1 _ c.loop-k-test.true c.requires)
+loop-k-preserved c = (search rules, search rules, specs-next c.loop-k.invariant.2 _ c.loop-k-test.true c.requires)
 
 pub returns : goal.returns
-returns c = record { same = c.loop-k.invariant.0; laid = specs-ends c.loop-k.invariant.1 c.loop-k-test.false }
+returns c = record { same = c.loop-k.invariant.0; lengths = c.loop-k.invariant.1; laid = specs-ends c.loop-k.invariant.2 c.loop-k-test.false }
