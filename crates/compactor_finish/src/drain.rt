@@ -47,20 +47,15 @@ pub fn drain(trees: &mut TreeTable, jobs: &mut EndingJobs, id: Ulid) -> Result<F
 {
     let mut l0_kept = [1; MAX_L0];
     let mut runs_kept = [1; MAX_RUNS];
-    let work = find(&trees.rows(), &jobs.rows(), id, Kind::Drain)?;
+    let lent = trees.rows();
+    let listed = jobs.rows();
+    let work = find(&lent, &listed, id, Kind::Drain)?;
     let job = work.job;
     let Some(tree) = work.tree else {
         jobs.set_status(job, Status::Failed);
         return Ok(Finished::SegmentMissing);
     };
-    let watermark = mark_drain(
-        &trees.rows(),
-        &jobs.rows(),
-        job,
-        tree,
-        &mut l0_kept,
-        &mut runs_kept,
-    );
+    let watermark = mark_drain(&lent, &listed, job, tree, &mut l0_kept, &mut runs_kept);
     trees.keep_rows(tree, &l0_kept, &runs_kept);
     trees.set_watermark(tree, watermark);
     jobs.set_status(job, Status::Completed);

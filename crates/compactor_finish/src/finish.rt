@@ -69,15 +69,17 @@ pub fn finish(
 {
     let mut l0_kept = [1; MAX_L0];
     let mut runs_kept = [1; MAX_RUNS];
-    let work = find(&trees.rows(), &jobs.rows(), id, Kind::Tiered)?;
+    let lent = trees.rows();
+    let listed = jobs.rows();
+    let work = find(&lent, &listed, id, Kind::Tiered)?;
     let job = work.job;
     let Some(tree) = work.tree else {
         jobs.set_status(job, Status::Failed);
         return Ok(Finished::SegmentMissing);
     };
     let change = place_finish(
-        &trees.rows(),
-        &jobs.rows(),
+        &lent,
+        &listed,
         job,
         tree,
         output,

@@ -9,7 +9,7 @@ ghost use Rattle.rules.specs.Calls.{merge_call};
 ghost use Rattle.rows.specs.InSlices.{jobs_in};
 ghost use Rattle.job_rows.specs.Table.{table_in, SameTables, SameLengths};
 ghost use Rattle.compactor_state.specs.Answers.{Answers};
-ghost use Rattle.compactor_state.specs.MergeCall.{tables_refusal, Merges};
+ghost use Rattle.compactor_state.specs.MergeCall.{tables_refusal};
 ghost use Rattle.compactor_state.specs.Taking.{CanTake, Took, CanTakeAll, TookAll, Ready};
 
 use job_rows::table::{JobTable, NewJob};
@@ -86,23 +86,17 @@ fn check_both(jobs: &Jobs, remote: &Jobs) -> Result<(), Refusal>
     remote.check()
 }
 
-// All that is to be known before the first byte is written: "1 and 2 on both job tables, then 14".
-fn check_merge(jobs: &Jobs, remote: &Jobs) -> Result<MergePlan, Refusal>
-    ensures { Merges (jobs_in jobs.now) (jobs_in remote.now) result }
-{
-    check_both(jobs, remote)?;
-    let plan = plan_merge(jobs, remote);
-    plan.room?;
-    Ok(plan)
-}
-
-// The local jobs are changed, the remote ones only read.
+// The local jobs are changed, the remote ones only read. All is known before the first byte is written: "1 and 2 on both job tables,
+// then 14".
 pub fn merge(jobs: &mut JobTable, remote: &Jobs) -> Result<(), Refusal>
     ensures same { SameTables jobs.old jobs.new }
     ensures lengths { SameLengths jobs.old jobs.new }
     ensures answers { Answers (merge_call (table_in jobs.old) (jobs_in remote.now)) result (table_in jobs.new) }
 {
-    let plan = check_merge(&jobs.rows(), remote)?;
+    let rows = jobs.rows();
+    check_both(&rows, remote)?;
+    let plan = plan_merge(&rows, remote);
+    plan.room?;
     merge_rows(jobs, remote, &plan);
     Ok(())
 }
