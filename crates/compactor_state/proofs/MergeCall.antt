@@ -10,11 +10,7 @@ use lib.ListN.{get_or}
 use borrow.Author.Tests.{leb-true}
 use Rattle.std.specs.declared.result.Result.TheVariants.{Ok, Err}
 use Rattle.rules.specs.declared.answers.Refusal.{Refusal}
-use Rattle.std.specs.Prelude.{Result}
-use Rattle.std.specs.Result.{IfOk}
-use Rattle.rules.specs.Answers.{number_of, refused}
-use Rattle.rules.proofs.Refused.{numbered}
-use Rattle.merging.specs.declared.plan.MergePlan.{MergePlan}
+use Rattle.rules.specs.Answers.{number_of}
 use Rattle.rules.specs.Lists.{all, linked, total, ◌given◌else◌}
 use Rattle.rules.specs.Tables.{ulid_below}
 use Rattle.rules.specs.Lent.{LentJobs, rows_from, ulid_at, source_count, jobs_of, lay_jobs}
@@ -30,7 +26,7 @@ use Rattle.rows.proofs.Shapes.{flat-jobs}
 use Rattle.merging.specs.Merge.{GoodRows, Planned}
 use Rattle.job_rows.proofs.Fitting.{good-capacity}
 use Rattle.compactor_state.specs.Answers.{Answers}
-use Rattle.compactor_state.specs.MergeCall.{tables_refusal, Merges}
+use Rattle.compactor_state.specs.MergeCall.{tables_refusal}
 use Rattle.compactor_state.specs.Taking.{Ready}
 use Rattle.compactor_state.proofs.Answered.{call-refused, call-done}
 
@@ -87,9 +83,12 @@ module _ (l r : LentJobs) where
         go false false false false e f g h z = (jobs-good l (rw (e, g)), jobs-good r (rw (f, h)))
 
     -- and the call's refusal is 14 or none
-    pub refusal_is : merge_refusal l r ≡ cond (too_many (merged (jobs_of l) (jobs_of r))) 14 0
+    refusal_is : merge_refusal l r ≡ cond (too_many (merged (jobs_of l) (jobs_of r))) 14 0
     unfolding merge_refusal
     refusal_is = rw (both-good.0.inside, both-good.1.inside, both-good.0.shapely, both-good.1.shapely)
+
+    pub refused-late : {n : ℕ} → n ≡ cond (too_many (merged (jobs_of l) (jobs_of r))) 14 0 → n ≡ merge_refusal l r
+    refused-late e = e ∙ sym refusal_is
 
     -- nor is that
     pub merge-ready : {taken staying : List ℕ} → 0 ≡ merge_refusal l r → Planned l r taken staying → Ready l r taken staying
@@ -107,19 +106,6 @@ module _ (l r : LentJobs) where
         go : (b : Bool) → ◌≡◌ {A = ℕ} 0 (cond b 14 0) → b ≡ false
         go true z = absurd (omega arith)
         go false z = refl
-
--- ---- what is found out before the table is changed
-
-module _ (l r : LentJobs) where
-  pub merges-not : {refusal : Refusal} → number_of refusal ≡ tables_refusal l r → Merges l r (Err refusal)
-  merges-not {refusal} e = record { refuses = refused-early l r e (numbered refusal); plans = tt }
-
-  pub merges : 0 ≡ tables_refusal l r → (found : Result MergePlan Refusal) → refused found ≡ cond (too_many (merged (jobs_of l) (jobs_of r))) 14 0 → IfOk found (λ p. Planned l r p.taken p.staying) → Merges l r found
-  merges none found e plan = record { refuses = e ∙ sym (refusal_is l r none); plans = go found e plan }
-    where
-      go : (a : Result MergePlan Refusal) → refused a ≡ cond (too_many (merged (jobs_of l) (jobs_of r))) 14 0 → IfOk a (λ p. Planned l r p.taken p.staying) → IfOk a (λ p. Ready l r p.taken p.staying)
-      go (Ok p) f q = merge-ready l r none (f ∙ sym (refusal_is l r none)) q
-      go (Err refusal) f q = tt
 
 -- ---- the call
 

@@ -157,6 +157,7 @@ module _ {lim : ℕ → ℕ} {o : Options} {asked : List AskedTree} {t : LentTre
       pub planning-made : Made used₀ picks₀ slots used' picks'
       planning-made = record {
         used_same = q.used_same ∙ p.used_same;
+        used_kept = q.used_kept ∙ p.used_kept;
         picks_same = q.picks_same ∙ p.picks_same;
         picks_kept = q.picks_kept ∙ p.picks_kept;
         most = omega (arith, q.slots, p.held);

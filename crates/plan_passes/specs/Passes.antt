@@ -22,6 +22,7 @@ pub record Plans (p : Plan) (t : LentTrees) (passes : ℕ) (picks : Picks) : Typ
 -- the tables keep their lengths; the picks are at most as many as the slots, and their sources lie within the slices
 pub record Made (used : UsedIds) (picks : Picks) (slots : ℕ) (used' : UsedIds) (picks' : Picks) : Type 0 where
   pub used_same : used'.keys.ghost_name ≡ used.keys.ghost_name
+  pub used_kept : length used'.keys.now ≡ length used.keys.now
   pub picks_same : picks'.rows.ghost_name ≡ picks.rows.ghost_name
   pub picks_kept : length picks'.rows.now ≡ length picks.rows.now
   pub most : picks'.count ≤ slots
