@@ -44,6 +44,10 @@ pub record PicksWithin (ps : List PickRow) : Type 0 where
 abbrev pub picks_in : Picks → List PickRow
 picks_in p = take p.count p.rows.now
 
+-- the table with none in use
+abbrev pub emptied : Picks → Picks
+emptied p = record { rows = p.rows; count = 0 }
+
 -- one pick more
 pub record PickAdded (before : Picks) (p : PickRow) (after : Picks) : Type 0 where
   pub same : after.rows.ghost_name ≡ before.rows.ghost_name

@@ -6,7 +6,7 @@ ghost use Rattle.rules.specs.Plan.{passes_from};
 ghost use Rattle.tree_pick.specs.declared.tree.AskedTree.{AskedTree};
 ghost use Rattle.rows.specs.InSlices.{trees_in};
 ghost use Rattle.tree_pick.specs.Pick.{Bounded};
-ghost use Rattle.plan_passes.specs.Picks.{picks_in, PicksWithin};
+ghost use Rattle.plan_passes.specs.Picks.{picks_in, emptied, PicksWithin};
 ghost use Rattle.plan_passes.specs.Ask.{AtCapacity, AskedRow, state_in};
 ghost use Rattle.plan_passes.specs.Passes.{AskedAll, Made, Plans};
 
@@ -30,10 +30,11 @@ pub fn plan_passes(
     trees: &Trees,
     chains: &[usize],
 ) -> usize
-    requires { Bounded o × (used.old.count + 65 * slots ≤ length used.old.keys.now) × (picks.old.count ≡ 0) × (slots ≤ length picks.old.rows.now) × AtCapacity (trees_in trees.now) chains.now × ((k : ℕ) (d : AskedTree) → k < length asked.now → AskedRow (limit_of o.threshold) (get_or asked.now k d) (trees_in trees.now) chains.now) }
+    requires { Bounded o × (used.old.count + 65 * slots ≤ length used.old.keys.now) × (slots ≤ length picks.old.rows.now) × AtCapacity (trees_in trees.now) chains.now × ((k : ℕ) (d : AskedTree) → k < length asked.now → AskedRow (limit_of o.threshold) (get_or asked.now k d) (trees_in trees.now) chains.now) }
     ensures made { Made used.old picks.old slots used.new picks.new }
-    ensures planned { (ts : List Tree) → AskedAll asked.now (trees_in trees.now) ts → Plans (passes_from (limit_of o.threshold) o ts slots 0 (state_in (trees_in trees.now) used.old slots fresh picks.old)) (trees_in trees.now) result picks.new }
+    ensures planned { (ts : List Tree) → AskedAll asked.now (trees_in trees.now) ts → Plans (passes_from (limit_of o.threshold) o ts slots 0 (state_in (trees_in trees.now) used.old slots fresh (emptied picks.old))) (trees_in trees.now) result picks.new }
 {
+    picks.count = 0;
     let mut left = slots;
     let mut next = fresh;
     let mut passes = 0;

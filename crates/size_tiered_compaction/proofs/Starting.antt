@@ -1,7 +1,7 @@
 -- What the passes start from: the rows of the trees that are asked, and the state of the call.
 use Prim.Native.Nat.{ℕ, ◌≤◌, ◌<◌}
 use mathlib.Core.Path.{◌≡◌, sym, subst, ◌∙◌}
-use mathlib.Core.List.{List}
+use mathlib.Core.List.{List, []}
 use native.Mathlib.Omega.{arith}
 use lib.ListN.{length, get_or, take, length-take}
 use lib.Seq.{get_or-take, length-take-le}
@@ -19,7 +19,7 @@ use Rattle.plan_start.specs.ChainTable.{ChainsFilled}
 use Rattle.plan_start.specs.UsedByJobs.{UsedByJobs}
 use Rattle.plan_start.proofs.SizeSums.{not-over}
 use Rattle.plan_passes.specs.declared.picks.Picks.{Picks}
-use Rattle.plan_passes.specs.Picks.{specs_of}
+use Rattle.plan_passes.specs.Picks.{specs_of, emptied}
 use Rattle.plan_passes.specs.Ask.{AskedRow, state_in}
 use Rattle.plan_passes.specs.Passes.{AskedAll, Made, Plans}
 use Rattle.size_tiered_compaction.specs.Proposing.{Ready, Proposes}
@@ -43,15 +43,15 @@ asked-row {t = t} {asked = asked} g rows filled k d h =
       chained = rw (s.first_run, s.runs) (filled.at row.tree row.there);
     })
 
-module _ (o : Options) (t : LentTrees) (j : LentJobs) (picks : Picks) {used : UsedIds} {slots fresh : ℕ} (z : picks.count ≡ 0) (u : UsedByJobs j used) (s : slots ≡ free_slots o (jobs_of j)) (f : fresh ≡ first_fresh (trees_of t) (jobs_of j)) where
+module _ (o : Options) (t : LentTrees) (j : LentJobs) (picks : Picks) {used : UsedIds} {slots fresh : ℕ} (u : UsedByJobs j used) (s : slots ≡ free_slots o (jobs_of j)) (f : fresh ≡ first_fresh (trees_of t) (jobs_of j)) where
   -- the tables hold the state at the start of a call
-  start_is : state_in t used slots fresh picks ≡ start o (trees_of t) (jobs_of j)
-  start_is = λ i. record { used = λ prefix x. u.uses prefix x i; slots = s i; fresh = f i; specs = specs_of t (take (z i) picks.rows.now) }
+  start_is : state_in t used slots fresh (emptied picks) ≡ start o (trees_of t) (jobs_of j)
+  start_is = λ i. record { used = λ prefix x. u.uses prefix x i; slots = s i; fresh = f i; specs = [] }
 
   -- so that what the passes leave is the plan
   pub picks-made : {asked : List AskedTree} {passes : ℕ} {used' : UsedIds} {picks' : Picks} → slots ≤ length picks.rows.now → t.count ≤ length asked → AskedInOrder t asked
       → Made used picks slots used' picks'
-      → ((ts : List Tree) → AskedAll (take t.count asked) t ts → Plans (passes_from (limit_of o.threshold) o ts slots 0 (state_in t used slots fresh picks)) t passes picks')
+      → ((ts : List Tree) → AskedAll (take t.count asked) t ts → Plans (passes_from (limit_of o.threshold) o ts slots 0 (state_in t used slots fresh (emptied picks))) t passes picks')
       → Proposes o t j passes picks'
   unfolding planned
   picks-made {asked} {passes} {used'} {picks'} most room order made plans =

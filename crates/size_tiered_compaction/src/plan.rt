@@ -100,7 +100,7 @@ const NO_PICK: PickRow = PickRow {
 
 // The picks of a call that is not refused, and how many passes picked something, from the tables that the passes ask.
 fn propose(o: Options, trees: &Trees, jobs: &Jobs, picks: &mut Picks) -> usize
-    requires { (picks.old.count ≡ 0) × (length picks.old.rows.now ≡ max_concurrent) × Ready o (trees_in trees.now) (jobs_in jobs.now) }
+    requires { (length picks.old.rows.now ≡ max_concurrent) × Ready o (trees_in trees.now) (jobs_in jobs.now) }
     ensures same { picks.new.rows.ghost_name ≡ picks.old.rows.ghost_name }
     ensures proposed { Proposes o (trees_in trees.now) (jobs_in jobs.now) result picks.new }
 {

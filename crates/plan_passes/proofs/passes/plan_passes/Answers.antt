@@ -1,13 +1,14 @@
 -- `plan_passes` meets its contract. The inner loop's invariant, `Passing`: the pass is what the trees left make of the state. The
 -- outer one's, `Planning`: the plan is what the passes left make of it; a pass that picked takes a slot, the measure.
 use mathlib.Core.Logic.{inl, inr}
+use mathlib.Core.Path.{refl}
 use native.Mathlib.Nat.{sub-zero}
 use Rattle.plan_passes.proofs.Turns.{pass-starts, pass-next, planning-starts, planning-next, planning-ends, planning-made}
 use Rattle.plan_passes.proofs.passes.plan_passes.Goals as goal
 use Rattle.plan_passes.proofs.passes.plan_passes.Goals.{in-Some, in_default, else-trees-test, then-trees-test+then-left-eq0}
 
 pub planning-init : goal.planning-init
-planning-init c = planning-starts c.requires.2
+planning-init c = planning-starts refl
 
 pub trees-init : goal.trees-init
 trees-init c = pass-starts
@@ -21,10 +22,11 @@ trees-preserved c =
     ]
 
 pub planning-preserved : goal.planning-preserved
-planning-preserved c = planning-next c.planning.invariant c.trees.invariant (elim c.trees-test.branch [ else-trees-test w ↦ inl w.trees-test.false | then-trees-test+then-left-eq0 w ↦ inr w.if-left-eq0.true ]) c.requires.3 c.if-picks-before.false
+planning-preserved c = planning-next c.planning.invariant c.trees.invariant (elim c.trees-test.branch [ else-trees-test w ↦ inl w.trees-test.false | then-trees-test+then-left-eq0 w ↦ inr w.if-left-eq0.true ]) c.requires.2 c.if-picks-before.false
 
 pub returns : goal.returns
-returns c = record {
-  made = planning-made c.planning.invariant c.trees.invariant;
-  planned = planning-ends c.planning.invariant c.trees.invariant (elim c.trees-test.branch [ else-trees-test w ↦ inl w.trees-test.false | then-trees-test+then-left-eq0 w ↦ inr w.if-left-eq0.true ]) c.requires.3 c.if-picks-before.true;
-}
+returns c =
+    let m = planning-made c.planning.invariant c.trees.invariant in record {
+      made = record { used_same = m.used_same; used_kept = m.used_kept; picks_same = m.picks_same; picks_kept = m.picks_kept; most = m.most; within = m.within };
+      planned = planning-ends c.planning.invariant c.trees.invariant (elim c.trees-test.branch [ else-trees-test w ↦ inl w.trees-test.false | then-trees-test+then-left-eq0 w ↦ inr w.if-left-eq0.true ]) c.requires.2 c.if-picks-before.true;
+    }

@@ -1,6 +1,6 @@
 -- `plan` meets its contract: a refusal answers its number; else the lent plan has places for the picks, and holds them (PlanMade.antt).
 use borrow.Author.Rules.{rules}
-use mathlib.Core.Path.{refl, sym}
+use mathlib.Core.Path.{sym}
 use native.Mathlib.Omega.{arith}
 use Rattle.std.proofs.lemmas.Result.{err_from_is_err_and}
 use Rattle.rules.proofs.Refused.{numbered}
@@ -15,7 +15,7 @@ returns-in_err-check_plan-clause-made c =
     rw (p.1, p.2) (plan-refused _ _ _ _ _ c.in_err-check_plan.ensures (numbered _))
 
 pub propose-passes-requires : goal.propose-passes-requires
-propose-passes-requires c = (refl, search rules, ready _ _ _ _ (sym c.in_ok-check_plan.ensures))
+propose-passes-requires c = (search rules, ready _ _ _ _ (sym c.in_ok-check_plan.ensures))
 
 pub lay_specs-requires : goal.lay_specs-requires
 lay_specs-requires c =
